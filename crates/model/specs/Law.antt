@@ -1,0 +1,126 @@
+-- What holds after every list of calls on a volume that was newly formatted.
+use mathlib.Core.Path.{_≡_}
+use mathlib.Core.Logic.{_↔_}
+use mathlib.Core.Bool.{Bool, true, false, cond, not, _&&_, _||_}
+use mathlib.Core.List.{List, [], _∷_, _++_, map}
+use Prim.Native.Nat.{ℕ, zero, suc, _+_, _<_, _≤_}
+use lib.Dec.{ltb, leb, eqb}
+use lib.ListN.{length, getD, replicate}
+use Rattle.std.specs.declared.option.Option.{Option}
+use Rattle.std.specs.declared.option.Option.the-variants.{Some, None}
+use Rattle.std.specs.declared.result.Result.{Result}
+use Rattle.std.specs.declared.result.Result.the-variants.{Ok, Err}
+pub use Rattle.model.specs.Image.{whole-sector, whole, from-to}
+use Rattle.model.specs.Image.{Image, Fault, look, is-ok, Write, writes}
+use Rattle.model.specs.Refusals.{Refusal, small, dead, Call, opening, closing, find, read, write, mkdir, unlink, prune, move, next, book, picked}
+use Rattle.model.specs.Names.{Path}
+use Rattle.model.specs.Tables.{Tables, no-entry, live, used, load, data-sector, all, sound, alive, told-alive, consistent}
+use Rattle.model.specs.Tree.{Tree, Item, Numbered, Kind, bare, is-some}
+use Rattle.model.specs.Book.{book-of}
+use Rattle.model.specs.History.{history, checks}
+use Rattle.model.specs.Sound.{names-sector, Shaped}
+use Rattle.model.specs.Volume.{Volume, opened, named, after, refusal, tree-of, row, Kept, checks as table-checks, tables-after}
+
+-- a store with no volume on it, or an open volume
+pub data Device : Type 0 where
+  closed : Image → Device
+  standing : Volume → Device
+
+abbrev pub step : Device → Call → Device
+step (closed i) c = elim c [ opening ↦ standing (opened i) | closing ↦ closed i | find d p ↦ closed i | mkdir d p ↦ closed i | unlink d p ↦ closed i | prune d p ↦ closed i | read d p b ↦ closed i | write d p w ↦ closed i | move d p q ↦ closed i | next d p a ↦ closed i | book b ↦ closed i ]
+step (standing v) c = elim c [ opening ↦ standing v | closing ↦ closed (v .image) | find d p ↦ standing (after v (find d p)) | mkdir d p ↦ standing (after v (mkdir d p)) | unlink d p ↦ standing (after v (unlink d p)) | prune d p ↦ standing (after v (prune d p)) | read d p b ↦ standing (after v (read d p b)) | write d p w ↦ standing (after v (write d p w)) | move d p q ↦ standing (after v (move d p q)) | next d p a ↦ standing (after v (next d p a)) | book b ↦ standing (after v (book b)) ]
+
+abbrev pub run : Device → List Call → Device
+run u [] = u
+run u (c ∷ cs) = run (step u c) cs
+
+-- `open` stands where the volume is closed, and every other call where it is open
+abbrev pub in-place : Bool → List Call → Bool
+in-place open? [] = true
+in-place open? (c ∷ cs) =
+    elim c [ opening ↦ not open? && in-place true cs | closing ↦ open? && in-place false cs | find d p ↦ open? && in-place true cs | mkdir d p ↦ open? && in-place true cs | unlink d p ↦ open? && in-place true cs | prune d p ↦ open? && in-place true cs | read d p b ↦ open? && in-place true cs | write d p w ↦ open? && in-place true cs | move d p q ↦ open? && in-place true cs | next d p a ↦ open? && in-place true cs | book b ↦ open? && in-place true cs ]
+
+-- on a closed store, the volume that `open` would give
+abbrev pub volume : Device → Volume
+volume (closed i) = opened i
+volume (standing v) = v
+
+-- format --------------------------------------------------------------------------------------------
+
+abbrev pub blank-mark : Image → ℕ → ℕ
+blank-mark i s = cond (ltb s 0x0b) 0xff (cond (ltb 0xff s) 0 (cond (is-ok (look i s)) 0 0xfe))
+
+abbrev pub format-writes : Image → List Write
+format-writes i = record { at = 0x100; new = from-to 0 512 (blank-mark i) } ∷ record { at = 0x101; new = replicate 512 0 } ∷ record { at = 0x102; new = replicate 512 0 } ∷ record { at = 0x103; new = replicate 512 0 } ∷ []
+
+abbrev pub format-refusal : Image → Option Refusal
+format-refusal i = cond (ltb (length i) 260) (Some small) (elim (load i) [ Err f ↦ Some (dead f) | Ok t ↦ None ])
+
+abbrev pub formatted : Image → Image
+formatted i = writes (format-writes i) i .image
+
+-- the data sectors that are not dead
+abbrev pub count : (ℕ → Bool) → ℕ → ℕ → ℕ
+count f a zero = 0
+count f a (suc n) = cond (f a) 1 0 + count f (suc a) n
+
+abbrev pub room : Image → ℕ
+room i = count (λ s. is-ok (look i s)) 0x0b 245
+
+-- the promises --------------------------------------------------------------------------------------
+
+abbrev pub finds : Volume → List ℕ → Kind × ℕ → Type 0
+finds v p x = elim (v .tables) [ None ↦ ⊥ | Some t ↦ (refusal v (find 0xff p) ≡ None) × (named t 0xff p ≡ Some x) ]
+
+-- the volume after format and a list of calls
+abbrev pub reached : Image → List Call → Volume
+reached i cs = volume (run (closed (formatted i)) cs)
+
+abbrev pub tree-in : Volume → Tree
+tree-in v = elim (v .tables) [ None ↦ bare | Some t ↦ tree-of t (v .image) ]
+
+pub record Stands (i : Image) (cs : List Call) (v : Volume) : Type 0 where
+  -- its own tables are let in, so it is not shut
+  pub stays-open : is-some (v .tables) ≡ true
+  pub kept : Kept v
+  -- opened again, it is the same volume
+  pub again : opened (v .image) ≡ v
+  -- the volume holds the tree of its history, and answers by it
+  pub told : tree-in v ≡ history (room i) bare cs
+  pub answers : (c : Call) → refusal v c ≡ picked (checks (room i) (history (room i) bare cs) c)
+  -- two paths that are found from the root are equal exactly when they have the same kind and number
+  pub paths : (p q : List ℕ) (x y : Kind × ℕ) → finds v p x → finds v q y → (p ≡ q) ↔ (x ≡ y)
+  -- two used places name the same sector exactly when they are one place
+  pub places : (t : Tables) → v .tables ≡ Some t → (f j s g k r : ℕ) → names-sector t f j s → names-sector t g k r → (s ≡ r) ↔ ((f ≡ g) × (j ≡ k))
+  -- the map marks a data sector used exactly when a used place names it
+  pub marks : (t : Tables) → v .tables ≡ Some t → (s : ℕ) → data-sector s ≡ true → (getD (t .marks) s 0 ≡ 0xff) ↔ ∥ ((f : ℕ) × (j : ℕ) × names-sector t f j s) ∥₁
+
+abbrev pub Runs-stand : Type 0
+Runs-stand = (i : Image) → whole i ≡ true → format-refusal i ≡ None → (cs : List Call) → in-place false cs ≡ true → Stands i cs (reached i cs)
+
+-- paths, kinds and bytes are the same; numbers do not count
+abbrev pub stands-in : Numbered → Path → List ℕ → Type 0
+stands-in items p b = ∥ ((n : ℕ) × (getD items n None ≡ Some (record { path = p; bytes = b }))) ∥₁
+
+pub record Same (t u : Tree) : Type 0 where
+  pub dirs : (p : Path) (b : List ℕ) → stands-in (t .dirs) p b ↔ stands-in (u .dirs) p b
+  pub files : (p : Path) (b : List ℕ) → stands-in (t .files) p b ↔ stands-in (u .files) p b
+
+-- a list that ends with an accepted `book`, and the bytes of that book
+pub record Books (i : Image) (cs : List Call) (it : List ℕ) : Type 0 where
+  pub sectors : whole i ≡ true
+  pub ready : format-refusal i ≡ None
+  pub buffer : List ℕ
+  pub placed : in-place false (cs ++ book buffer ∷ []) ≡ true
+  pub accepted : refusal (reached i cs) (book buffer) ≡ None
+  pub given : it ≡ book-of (tree-in (reached i cs))
+
+abbrev pub Books-tell : Type 0
+Books-tell = (i j : Image) (cs ds : List Call) (x y : List ℕ) → Books i cs x → Books j ds y → (x ≡ y) ↔ Same (history (room i) bare cs) (history (room j) bare ds)
+
+-- a volume's tables alone tell that they are sound, and each accepted call leaves them so
+pub record Tables-stay : Type 0 where
+  pub from-sound : (i : Image) (t : Tables) → Shaped t → sound i t ≡ true → consistent t ≡ true
+  -- on a store whose dead data sectors are those that the map marks
+  pub to-sound : (i : Image) (t : Tables) → Shaped t → consistent t ≡ true → ((s : ℕ) → data-sector s ≡ true → alive i s ≡ told-alive t s) → sound i t ≡ true
+  pub after-call : (i : Image) (t : Tables) (c : Call) → Shaped t → consistent t ≡ true → picked (table-checks t i c) ≡ None → Shaped (tables-after t c) × (consistent (tables-after t c) ≡ true)

@@ -1,0 +1,15 @@
+pub mod Sizes
+pub mod Image
+pub mod Refusals
+pub mod Names
+pub mod Tables
+pub mod Tree
+pub mod Book
+pub mod History
+pub mod Examples
+pub mod Volume
+pub mod Answers
+pub mod Sound
+pub mod Law
+pub mod Runs
+pub mod Order
