@@ -20,6 +20,7 @@ use Rattle.model.specs.Tree.{Tree, Item, Numbered, Kind, bare, is-some}
 use Rattle.model.specs.Book.{book-of}
 use Rattle.model.specs.History.{history, checks}
 use Rattle.model.specs.Sound.{names-sector, Shaped}
+pub use Rattle.model.specs.Volume.{blank-mark, format-writes, format-refusal, formatted}
 use Rattle.model.specs.Volume.{Volume, opened, named, after, refusal, tree-of, row, Kept, checks as table-checks, tables-after}
 
 -- a store with no volume on it, or an open volume
@@ -45,20 +46,6 @@ in-place open? (c ∷ cs) =
 abbrev pub volume : Device → Volume
 volume (closed i) = opened i
 volume (standing v) = v
-
--- format --------------------------------------------------------------------------------------------
-
-abbrev pub blank-mark : Image → ℕ → ℕ
-blank-mark i s = cond (ltb s first-data) mark-used (cond (ltb last-data s) mark-free (cond (is-ok (look i s)) mark-free mark-dead))
-
-abbrev pub format-writes : Image → List Write
-format-writes i = record { at = map-sector; new = from-to 0 sector-size (blank-mark i) } ∷ record { at = dirs-sector; new = replicate sector-size blank } ∷ record { at = files-sector; new = replicate sector-size blank } ∷ record { at = rows-sector; new = replicate sector-size blank } ∷ []
-
-abbrev pub format-refusal : Image → Option Refusal
-format-refusal i = cond (ltb (length i) least-sectors) (Some small) (elim (load i) [ Err f ↦ Some (dead f) | Ok t ↦ None ])
-
-abbrev pub formatted : Image → Image
-formatted i = writes (format-writes i) i .image
 
 -- the data sectors that are not dead
 abbrev pub count : (ℕ → Bool) → ℕ → ℕ → ℕ
