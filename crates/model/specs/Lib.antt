@@ -11,5 +11,6 @@ pub mod Volume
 pub mod Answers
 pub mod Sound
 pub mod Law
+pub mod Meaning
 pub mod Runs
 pub mod Order
