@@ -12,5 +12,4 @@ pub mod Answers
 pub mod Sound
 pub mod Law
 pub mod Meaning
-pub mod Runs
 pub mod Order
