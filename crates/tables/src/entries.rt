@@ -1,0 +1,68 @@
+// An entry as its sixteen bytes: one for the parent, then fifteen for the name.
+ghost use mathlib.Core.Bool.{not};
+ghost use mathlib.Core.Path.{_≡_};
+ghost use lib.ListN.{length};
+ghost use Rattle.model.specs.Tables.{entry, entries, entries-bytes, live};
+ghost use Rattle.tables.specs.Views.{entry-view, entries-view};
+use crate::slots::Slot;
+use crate::types::Entry;
+
+impl Entry {
+    pub const FREE: Entry = Entry {
+        parent: 0,
+        name: [0; 15],
+    };
+
+    // The entry that sixteen bytes hold.
+    pub(crate) fn decode(bytes: &[u8]) -> Entry
+        requires { ⌜ length (now bytes) ≡ 16 ⌝ }
+        ensures { λ e. ⌜ entry-view e ≡ entry (now (bytes .entry)) ⌝ }
+    {
+        let [parent, rest @ ..] = bytes else {
+            return Entry::FREE;
+        };
+        let mut name = [0; 15];
+        name.copy_from_slice(rest);
+        Entry {
+            parent: *parent,
+            name,
+        }
+    }
+
+    pub fn is_live(&self) -> bool
+        ensures { λ r. ⌜ r ≡ live (entry-view (now (self .entry))) ⌝ }
+    {
+        self.name[0] != 0
+    }
+}
+
+pub impl Slot for Entry as EntrySlot {
+    ghost vacant = { λ e. not (live (entry-view e)) };
+
+    fn is_free(&self) -> bool {
+        !self.is_live()
+    }
+}
+
+// The entries that a sector holds.
+pub fn decode(sector: &[u8; 512]) -> [Entry; 32]
+    ensures { λ es. ⌜ entries-view es ≡ entries (now (sector .entry)) ⌝ }
+{
+    let mut all = [Entry::FREE; 32];
+    for (i, entry) in all.iter_mut().enumerate() {
+        *entry = Entry::decode(&sector[16 * i..16 * i + 16]);
+    }
+    all
+}
+
+// The sector that holds the entries.
+pub fn encode(all: &[Entry; 32]) -> [u8; 512]
+    ensures { λ r. ⌜ r ≡ entries-bytes (entries-view (now (all .entry))) ⌝ }
+{
+    let mut sector = [0; 512];
+    for (i, entry) in all.iter().enumerate() {
+        sector[16 * i] = entry.parent;
+        sector[16 * i + 1..16 * i + 16].copy_from_slice(&entry.name);
+    }
+    sector
+}

@@ -1,0 +1,9 @@
+// The four tables of a volume: how they lie in sectors, when they are sound, and how items are found in them.
+pub mod entries;
+pub mod layout;
+pub mod marks;
+pub mod names;
+pub mod rows;
+pub mod slots;
+pub mod soundness;
+pub mod types;

@@ -1,0 +1,73 @@
+// Names: which bytes are one, and which of two comes first.
+ghost use mathlib.Core.Path.{_≡_};
+ghost use Rattle.model.specs.Names.{proper-byte, proper-name, before};
+ghost use Rattle.model.specs.Tables.{trimmed, well-named};
+ghost use Rattle.tables.specs.Views.{entry-view};
+use crate::types::Entry;
+
+// The most bytes of a name.
+pub const LONGEST: usize = 15;
+
+// 0x21 to 0x7E, without the slash.
+pub fn is_proper_byte(b: u8) -> bool
+    ensures { λ r. ⌜ r ≡ proper-byte b ⌝ }
+{
+    b >= 0x21 && b <= 0x7e && b != b'/'
+}
+
+// 1 to 15 proper bytes.
+pub fn is_proper(name: &[u8]) -> bool
+    ensures { λ r. ⌜ r ≡ proper-name (now (name .entry)) ⌝ }
+{
+    if name.is_empty() || name.len() > LONGEST {
+        return false;
+    }
+    for b in name {
+        if !is_proper_byte(*b) {
+            return false;
+        }
+    }
+    true
+}
+
+// The first byte that differs decides, and a name precedes every longer one that begins with it.
+pub fn precedes(a: &[u8], b: &[u8]) -> bool
+    ensures { λ r. ⌜ r ≡ before (now (a .entry)) (now (b .entry)) ⌝ }
+{
+    for (x, y) in a.iter().zip(b.iter()) {
+        if x != y {
+            return x < y;
+        }
+    }
+    a.len() < b.len()
+}
+
+impl Entry {
+    // The name without the 0x00 that fill it up.
+    pub fn name(&self) -> &[u8]
+        ensures { λ r. ⌜ now r ≡ trimmed (now (self .entry) .name) ⌝ }
+    {
+        for i in 0..LONGEST {
+            if self.name[i] == 0 {
+                return &self.name[0..i];
+            }
+        }
+        &self.name[0..LONGEST]
+    }
+
+    // A proper name, filled up with 0x00.
+    pub fn is_well_named(&self) -> bool
+        ensures { λ r. ⌜ r ≡ well-named (entry-view (now (self .entry))) ⌝ }
+    {
+        let name = self.name();
+        if !is_proper(name) {
+            return false;
+        }
+        for i in name.len()..LONGEST {
+            if self.name[i] != 0 {
+                return false;
+            }
+        }
+        true
+    }
+}
