@@ -13,12 +13,14 @@ use Rattle.std.specs.declared.result.Result.the-variants.{Ok, Err}
 pub use Rattle.model.specs.Image.{whole-sector, whole, from-to}
 use Rattle.model.specs.Image.{Image, Fault, look, is-ok, Write, writes}
 use Rattle.model.specs.Refusals.{Refusal, small, dead, Call, opening, closing, find, read, write, mkdir, unlink, prune, move, next, book, picked}
+use Rattle.model.specs.Sizes.{sector-size, root, first-data, last-data, data-count, map-sector, dirs-sector, files-sector, rows-sector, least-sectors, mark-free, mark-used, mark-dead, blank}
 use Rattle.model.specs.Names.{Path}
 use Rattle.model.specs.Tables.{Tables, no-entry, live, used, load, data-sector, all, sound, alive, told-alive, consistent}
 use Rattle.model.specs.Tree.{Tree, Item, Numbered, Kind, bare, is-some}
 use Rattle.model.specs.Book.{book-of}
 use Rattle.model.specs.History.{history, checks}
 use Rattle.model.specs.Sound.{names-sector, Shaped}
+pub use Rattle.model.specs.Volume.{blank-mark, format-writes, format-refusal, formatted}
 use Rattle.model.specs.Volume.{Volume, opened, named, after, refusal, tree-of, row, Kept, checks as table-checks, tables-after}
 
 -- a store with no volume on it, or an open volume
@@ -45,32 +47,18 @@ abbrev pub volume : Device → Volume
 volume (closed i) = opened i
 volume (standing v) = v
 
--- format --------------------------------------------------------------------------------------------
-
-abbrev pub blank-mark : Image → ℕ → ℕ
-blank-mark i s = cond (ltb s 0x0b) 0xff (cond (ltb 0xff s) 0 (cond (is-ok (look i s)) 0 0xfe))
-
-abbrev pub format-writes : Image → List Write
-format-writes i = record { at = 0x100; new = from-to 0 512 (blank-mark i) } ∷ record { at = 0x101; new = replicate 512 0 } ∷ record { at = 0x102; new = replicate 512 0 } ∷ record { at = 0x103; new = replicate 512 0 } ∷ []
-
-abbrev pub format-refusal : Image → Option Refusal
-format-refusal i = cond (ltb (length i) 260) (Some small) (elim (load i) [ Err f ↦ Some (dead f) | Ok t ↦ None ])
-
-abbrev pub formatted : Image → Image
-formatted i = writes (format-writes i) i .image
-
 -- the data sectors that are not dead
 abbrev pub count : (ℕ → Bool) → ℕ → ℕ → ℕ
 count f a zero = 0
 count f a (suc n) = cond (f a) 1 0 + count f (suc a) n
 
 abbrev pub room : Image → ℕ
-room i = count (λ s. is-ok (look i s)) 0x0b 245
+room i = count (λ s. is-ok (look i s)) first-data data-count
 
 -- the promises --------------------------------------------------------------------------------------
 
 abbrev pub finds : Volume → List ℕ → Kind × ℕ → Type 0
-finds v p x = elim (v .tables) [ None ↦ ⊥ | Some t ↦ (refusal v (find 0xff p) ≡ None) × (named t 0xff p ≡ Some x) ]
+finds v p x = elim (v .tables) [ None ↦ ⊥ | Some t ↦ (refusal v (find root p) ≡ None) × (named t root p ≡ Some x) ]
 
 -- the volume after format and a list of calls
 abbrev pub reached : Image → List Call → Volume
@@ -93,7 +81,7 @@ pub record Stands (i : Image) (cs : List Call) (v : Volume) : Type 0 where
   -- two used places name the same sector exactly when they are one place
   pub places : (t : Tables) → v .tables ≡ Some t → (f j s g k r : ℕ) → names-sector t f j s → names-sector t g k r → (s ≡ r) ↔ ((f ≡ g) × (j ≡ k))
   -- the map marks a data sector used exactly when a used place names it
-  pub marks : (t : Tables) → v .tables ≡ Some t → (s : ℕ) → data-sector s ≡ true → (getD (t .marks) s 0 ≡ 0xff) ↔ ∥ ((f : ℕ) × (j : ℕ) × names-sector t f j s) ∥₁
+  pub marks : (t : Tables) → v .tables ≡ Some t → (s : ℕ) → data-sector s ≡ true → (getD (t .marks) s 0 ≡ mark-used) ↔ ∥ ((f : ℕ) × (j : ℕ) × names-sector t f j s) ∥₁
 
 abbrev pub Runs-stand : Type 0
 Runs-stand = (i : Image) → whole i ≡ true → format-refusal i ≡ None → (cs : List Call) → in-place false cs ≡ true → Stands i cs (reached i cs)

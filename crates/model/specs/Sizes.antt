@@ -60,6 +60,10 @@ mark-dead = 0xfe
 abbrev pub entry-count : ℕ
 entry-count = 32
 
+-- the items that a volume holds at most: directories and files
+abbrev pub most-items : ℕ
+most-items = 64
+
 -- the bytes of an entry: one for the parent, and the name's
 abbrev pub entry-size : ℕ
 entry-size = 16
