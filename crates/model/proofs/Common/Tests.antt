@@ -12,9 +12,6 @@ pub refute : (b : Bool) → (b ≡ true → ⊥) → b ≡ false
 refute true h = absurd (h refl)
 refute false h = refl
 
-pub clash : (b : Bool) → b ≡ true → b ≡ false → ⊥
-clash b e f = both-ways b f e
-
 -- the first that passes --------------------------------------------------------------------------------
 pub no-some : {A : Type 0} (a : A) → _≡_ {A = Option A} None (Some a) → ⊥
 no-some a e = let z : _≡_ {A = ℕ} 0 1 = cc in omega arith
@@ -28,4 +25,4 @@ some-out (Some a) e = (a, refl)
 
 pub none-out : {A : Type 0} (o : Option A) → is-some o ≡ false → o ≡ None
 none-out None h = refl
-none-out (Some a) h = absurd (clash true refl h)
+none-out (Some a) h = absurd (both-ways true h refl)
