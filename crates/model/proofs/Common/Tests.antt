@@ -16,9 +16,6 @@ refute false h = refl
 pub no-some : {A : Type 0} (a : A) → _≡_ {A = Option A} None (Some a) → ⊥
 no-some a e = let z : _≡_ {A = ℕ} 0 1 = cc in omega arith
 
-pub some-same : {A : Type 0} (a b : A) → _≡_ {A = Option A} (Some a) (Some b) → a ≡ b
-some-same a b e = cc
-
 pub some-out : {A : Type 0} (o : Option A) → is-some o ≡ true → (a : A) × (o ≡ Some a)
 some-out None e = absurd (false≢true e)
 some-out (Some a) e = (a, refl)
