@@ -5,7 +5,7 @@ use mathlib.Core.Bool.{Bool, true, false, cond, not, _&&_, _||_}
 use mathlib.Core.List.{List, [], _∷_, _++_, map}
 use Prim.Native.Nat.{ℕ, zero, suc, _+_, _<_, _≤_}
 use lib.Dec.{ltb, leb, eqb}
-use lib.ListN.{length, getD, replicate}
+use lib.ListN.{length, getD, take}
 use Rattle.std.specs.declared.option.Option.{Option}
 use Rattle.std.specs.declared.option.Option.the-variants.{Some, None}
 use Rattle.std.specs.declared.result.Result.{Result}
@@ -17,9 +17,9 @@ use Rattle.model.specs.Sizes.{sector-size, root, first-data, last-data, data-c
 use Rattle.model.specs.Names.{Path}
 use Rattle.model.specs.Tables.{Tables, no-entry, live, used, load, data-sector, all, sound, alive, told-alive, consistent}
 use Rattle.model.specs.Tree.{Tree, Item, Numbered, Kind, bare, is-some}
-use Rattle.model.specs.Book.{book-of}
 use Rattle.model.specs.History.{history, checks}
 use Rattle.model.specs.Sound.{names-sector, Shaped}
+use Rattle.model.specs.Answers.{turned-away, find-answer, book-answer, book-buffer}
 pub use Rattle.model.specs.Volume.{blank-mark, format-writes, format-refusal, formatted}
 use Rattle.model.specs.Volume.{Volume, opened, named, after, refusal, tree-of, row, Kept, checks as table-checks, tables-after}
 
@@ -28,10 +28,29 @@ pub data Device : Type 0 where
   closed : Image → Device
   standing : Volume → Device
 
-abbrev pub step : Device → Call → Device
-step (closed i) c = elim c [ opening ↦ standing (opened i) | closing ↦ closed i | find d p ↦ closed i | mkdir d p ↦ closed i | unlink d p ↦ closed i | prune d p ↦ closed i | read d p b ↦ closed i | write d p w ↦ closed i | move d p q ↦ closed i | next d p a ↦ closed i | book b ↦ closed i ]
-step (standing v) c = elim c [ opening ↦ standing v | closing ↦ closed (v .image) | find d p ↦ standing (after v (find d p)) | mkdir d p ↦ standing (after v (mkdir d p)) | unlink d p ↦ standing (after v (unlink d p)) | prune d p ↦ standing (after v (prune d p)) | read d p b ↦ standing (after v (read d p b)) | write d p w ↦ standing (after v (write d p w)) | move d p q ↦ standing (after v (move d p q)) | next d p a ↦ standing (after v (next d p a)) | book b ↦ standing (after v (book b)) ]
+-- `open` and `close` change whether there is a volume; every other call is one of the volume
+pub data Use : Type 0 where
+  opens closes works : Use
 
+abbrev pub use-of : Call → Use
+use-of opening = opens
+use-of closing = closes
+use-of (find d p) = works
+use-of (mkdir d p) = works
+use-of (unlink d p) = works
+use-of (prune d p) = works
+use-of (read d p b) = works
+use-of (write d p w) = works
+use-of (move d p q) = works
+use-of (next d p a) = works
+use-of (book b) = works
+
+-- a call that is out of place leaves the device
+abbrev pub step : Device → Call → Device
+step (closed i) c = elim (use-of c) [ opens ↦ standing (opened i) | closes ↦ closed i | works ↦ closed i ]
+step (standing v) c = elim (use-of c) [ opens ↦ standing v | closes ↦ closed (v .image) | works ↦ standing (after v c) ]
+
+-- one call after another
 abbrev pub run : Device → List Call → Device
 run u [] = u
 run u (c ∷ cs) = run (step u c) cs
@@ -40,7 +59,7 @@ run u (c ∷ cs) = run (step u c) cs
 abbrev pub in-place : Bool → List Call → Bool
 in-place open? [] = true
 in-place open? (c ∷ cs) =
-    elim c [ opening ↦ not open? && in-place true cs | closing ↦ open? && in-place false cs | find d p ↦ open? && in-place true cs | mkdir d p ↦ open? && in-place true cs | unlink d p ↦ open? && in-place true cs | prune d p ↦ open? && in-place true cs | read d p b ↦ open? && in-place true cs | write d p w ↦ open? && in-place true cs | move d p q ↦ open? && in-place true cs | next d p a ↦ open? && in-place true cs | book b ↦ open? && in-place true cs ]
+    elim (use-of c) [ opens ↦ not open? && in-place true cs | closes ↦ open? && in-place false cs | works ↦ open? && in-place true cs ]
 
 -- on a closed store, the volume that `open` would give
 abbrev pub volume : Device → Volume
@@ -57,8 +76,9 @@ room i = count (λ s. is-ok (look i s)) first-data data-count
 
 -- the promises --------------------------------------------------------------------------------------
 
+-- `find` accepts the path from the root, and gives the kind and number x
 abbrev pub finds : Volume → List ℕ → Kind × ℕ → Type 0
-finds v p x = elim (v .tables) [ None ↦ ⊥ | Some t ↦ (refusal v (find root p) ≡ None) × (named t root p ≡ Some x) ]
+finds v p x = find-answer v root p ≡ Ok x
 
 -- the volume after format and a list of calls
 abbrev pub reached : Image → List Call → Volume
@@ -75,7 +95,7 @@ pub record Stands (i : Image) (cs : List Call) (v : Volume) : Type 0 where
   pub again : opened (v .image) ≡ v
   -- the volume holds the tree of its history, and answers by it
   pub told : tree-in v ≡ history (room i) bare cs
-  pub answers : (c : Call) → refusal v c ≡ picked (checks (room i) (history (room i) bare cs) c)
+  pub answers : (c : Call) → turned-away v c ≡ picked (checks (room i) (history (room i) bare cs) c)
   -- two paths that are found from the root are equal exactly when they have the same kind and number
   pub paths : (p q : List ℕ) (x y : Kind × ℕ) → finds v p x → finds v q y → (p ≡ q) ↔ (x ≡ y)
   -- two used places name the same sector exactly when they are one place
@@ -94,14 +114,15 @@ pub record Same (t u : Tree) : Type 0 where
   pub dirs : (p : Path) (b : List ℕ) → stands-in (t .dirs) p b ↔ stands-in (u .dirs) p b
   pub files : (p : Path) (b : List ℕ) → stands-in (t .files) p b ↔ stands-in (u .files) p b
 
--- a list that ends with an accepted `book`, and the bytes of that book
+-- a list that ends with an accepted `book`, and the bytes of that book: as many of its buffer as it answers
 pub record Books (i : Image) (cs : List Call) (it : List ℕ) : Type 0 where
   pub sectors : whole i ≡ true
   pub ready : format-refusal i ≡ None
   pub buffer : List ℕ
   pub placed : in-place false (cs ++ book buffer ∷ []) ≡ true
-  pub accepted : refusal (reached i cs) (book buffer) ≡ None
-  pub given : it ≡ book-of (tree-in (reached i cs))
+  pub long : ℕ
+  pub accepted : book-answer (reached i cs) buffer ≡ Ok long
+  pub given : it ≡ take long (book-buffer (reached i cs) buffer)
 
 abbrev pub Books-tell : Type 0
 Books-tell = (i j : Image) (cs ds : List Call) (x y : List ℕ) → Books i cs x → Books j ds y → (x ≡ y) ↔ Same (history (room i) bare cs) (history (room j) bare ds)

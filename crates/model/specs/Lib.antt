@@ -11,5 +11,5 @@ pub mod Volume
 pub mod Answers
 pub mod Sound
 pub mod Law
-pub mod Runs
+pub mod Meaning
 pub mod Order
