@@ -1,2 +1,5 @@
 -- What all the proofs rest on: tests, options, lists, searches and members.
+pub mod Lists
+pub mod Members
+pub mod Searches
 pub mod Tests
