@@ -21,11 +21,10 @@ use Rattle.model.specs.Book.{Line, lines-of, insert, sorted, contents, bodies,
 use Rattle.model.specs.Sound.{Shaped, Sound, Live}
 use Rattle.model.specs.Volume.{named, starts, is-file, number-of, item-path, bytes-or-blank, body, dir-items, file-items-by, tree-by, tree-of, book-sectors, checks}
 use Rattle.model.proofs.Ready.{Ready}
-use Rattle.model.proofs.Steps.{facts-sound}
-use Rattle.model.proofs.Lookups.{sound-facts}
-use Rattle.model.proofs.Lookups.Facts.{held-from}
-use Rattle.model.proofs.Lookups.Walks.{found}
-use Rattle.model.proofs.Follows.Aims.{pass-not, file-out}
+use Rattle.model.proofs.Tables.{sound-facts, facts-sound}
+use Rattle.model.proofs.Tables.Rules.{held-from}
+use Rattle.model.proofs.Tables.Walks.{found, file-out}
+use Rattle.model.proofs.Calls.Checks.{pass-not}
 
 -- live sectors are read one after another ------------------------------------------------------------
 
