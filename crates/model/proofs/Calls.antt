@@ -7,10 +7,10 @@ pub mod Formats
 pub mod Makes
 pub mod Rows
 pub mod Writes
-use mathlib.Core.Path.{_≡_, refl, sym, ap, subst, _∙_}
-use mathlib.Core.Bool.{Bool, true, cond}
+use mathlib.Core.Path.{_≡_, sym, subst, _∙_}
+use mathlib.Core.Bool.{true}
 use mathlib.Core.List.{List}
-use Prim.Native.Nat.{ℕ, zero, suc, _+_, _≤_}
+use Prim.Native.Nat.{ℕ, _≤_}
 use lib.ListN.{length, getD}
 use Rattle.std.specs.declared.option.Option.the-variants.{None}
 use Rattle.model.specs.Image.{Image, look, is-ok, Write, writes}
@@ -19,8 +19,9 @@ use Rattle.model.specs.Tables.{Tables}
 use Rattle.model.specs.History.{checks as tree-checks}
 use Rattle.model.specs.Volume.{tree-of, checks, tables-after, sector-writes}
 use Rattle.model.specs.Sound.{Shaped, ProperRow, Sound}
-use Rattle.model.specs.Law.{formatted, whole, format-refusal, format-writes, count, room}
+use Rattle.model.specs.Law.{formatted, whole, format-refusal, format-writes, room}
 use Rattle.model.proofs.Ready.{Ready}
+use Rattle.model.proofs.Common.Counts.{count-alike}
 use Rattle.model.proofs.Store.Writes.{Like, went}
 use Rattle.model.proofs.Tables.Loads.{Holds, load-holds, holds-load, Next}
 use Rattle.model.proofs.Trees.Counts.{room-agrees}
@@ -105,10 +106,6 @@ format-ready i w f =
     (n .0, ready-after i (n .0) (format-writes i) w (l .0) (n .1))
 
 -- no write changes which sectors are dead, so the room stays
-count-alike : (f g : ℕ → Bool) → ((s : ℕ) → f s ≡ g s) → (n a : ℕ) → count f a n ≡ count g a n
-count-alike f g e zero a = refl
-count-alike f g e (suc n) a = ap (λ (b : Bool). cond b 1 0 + count f (suc a) n) (e a) ∙ ap (λ (m : ℕ). cond (g a) 1 0 + m) (count-alike f g e n (suc a))
-
 room-like : (i j : Image) → Like i j → room j ≡ room i
 room-like i j l = count-alike (λ s. is-ok (look j s)) (λ s. is-ok (look i s)) (l .same-alive) 245 0x0b
 

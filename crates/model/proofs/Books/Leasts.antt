@@ -12,6 +12,7 @@ use Rattle.std.proofs.shelf.Tests.{both-ways}
 use Rattle.model.specs.Names.{Name, before}
 use Rattle.model.specs.Answers.{Listed, lesser, least-after}
 use Rattle.model.specs.Order.{In, Apart, Least, and-on, in-order}
+use Rattle.model.proofs.Common.Lists.{Pairs}
 use Rattle.model.proofs.Common.Tests.{refute}
 use Rattle.model.proofs.Naming.Orders.{before-irrefl, before-trans, before-tri}
 
@@ -102,8 +103,7 @@ from-in-order (suc n) a xs y h = go (λ x. from-in-order n (x .name) xs y) (leas
 
 -- each name before all later ones
 abbrev pub Rise : List Listed → Type 0
-Rise [] = Unit {0}
-Rise (x ∷ xs) = ((y : Listed) → In y xs → before (x .name) (y .name) ≡ true) × Rise xs
+Rise = Pairs (λ x y. before (x .name) (y .name) ≡ true)
 
 pub in-order-rise : (n : ℕ) (a : Name) (xs : List Listed) → Rise (in-order n a xs)
 in-order-rise zero a xs = tt

@@ -15,7 +15,7 @@ use Rattle.model.specs.Volume.{climb, item-path}
 use Rattle.model.specs.Answers.{Listed, listing}
 use Rattle.model.specs.Sound.{Shaped, Live, Sound}
 use Rattle.model.specs.Order.{In, entry-of, Held, children-in-order, if-dir, each-with, preorder}
-use Rattle.model.proofs.Common.Lists.{in-left, in-right, in-append}
+use Rattle.model.proofs.Common.Lists.{in-left, in-right, in-append, Pairs, pairs-append}
 use Rattle.model.proofs.Naming.Orders.{path-lt, path-eq}
 use Rattle.model.proofs.Tables.Climbs.{up, Step, climbs-cases, climbs-zero, place-climbs, climb-live}
 use Rattle.model.proofs.Books.Leasts.{apart-tell, from-in-order, Rise, in-order-rise, later, later-long, to-in-order}
@@ -39,16 +39,7 @@ to-each f (y ∷ xs) z x (inr h) k = inr (in-right z (f y) (each-with f xs) (to-
 
 -- each path before all later ones
 abbrev pub Mounts : (Listed → Path) → List Listed → Type 0
-Mounts g [] = Unit {0}
-Mounts g (x ∷ xs) = ((y : Listed) → In y xs → path-before (g x) (g y) ≡ true) × Mounts g xs
-
-mounts-join : (g : Listed → Path) (xs ys : List Listed) → Mounts g xs → Mounts g ys → ((x y : Listed) → In x xs → In y ys → path-before (g x) (g y) ≡ true) → Mounts g (xs ++ ys)
-mounts-join g [] ys a b d = b
-mounts-join g (x ∷ xs) ys a b d = ((λ y h. go y (in-append y xs ys h)), mounts-join g xs ys (a .1) b (λ u v h k. d u v (inr h) k))
-  where
-    go : (y : Listed) → In y xs ⊎ In y ys → path-before (g x) (g y) ≡ true
-    go y (inl h) = a .0 y h
-    go y (inr h) = d x y (inl refl) h
+Mounts g = Pairs (λ x y. path-before (g x) (g y) ≡ true)
 
 beyond : (b p q : Path) → path-before p q ≡ true → path-before (b ++ p) (b ++ q) ≡ true
 beyond [] p q h = h
@@ -75,7 +66,7 @@ module _ (g : Listed → Path) (b : Path) (f : Listed → List Listed) where
 
   mounts-each : (xs : List Listed) → Rise xs → Beneath xs → Mounts g (each-with f xs)
   mounts-each [] r h = tt
-  mounts-each (x ∷ xs) r h = ((λ y k. head y (in-append y (f x) (each-with f xs) k)), mounts-join g (f x) (each-with f xs) (h x (inl refl) .2) (mounts-each xs (r .1) (λ y k. h y (inr k))) (λ u v j k. over u v (inr j) k))
+  mounts-each (x ∷ xs) r h = ((λ y k. head y (in-append y (f x) (each-with f xs) k)), pairs-append (λ x y. path-before (g x) (g y) ≡ true) (f x) (each-with f xs) (h x (inl refl) .2) (mounts-each xs (r .1) (λ y k. h y (inr k))) (λ u v j k. over u v (inr j) k))
     where
       over : (u v : Listed) → (u ≡ x) ⊎ In u (f x) → In v (each-with f xs) → path-before (g u) (g v) ≡ true
       over u v j k =

@@ -1,7 +1,7 @@
 -- What mkdir and move leave: one entry is set.
 use mathlib.Core.Path.{_≡_, sym, ap, subst, _∙_}
 use mathlib.Core.Logic.{_⊎_, inl, inr}
-use mathlib.Core.Bool.{true, false, not, _&&_}
+use mathlib.Core.Bool.{true, false, _&&_}
 use mathlib.Core.List.{List, [], _∷_, _++_}
 use Prim.Native.Nat.{ℕ, _<_}
 use native.Mathlib.Omega.{arith}
@@ -9,7 +9,7 @@ use lib.ListN.{length, set}
 use Rattle.std.specs.declared.option.Option.{Option}
 use Rattle.std.specs.declared.option.Option.the-variants.{Some, None}
 use Rattle.std.proofs.shelf.Lists.{getD-set-other, getD-set-same, length-set}
-use Rattle.std.proofs.shelf.Tests.{and-parts, cases-eq, not-true}
+use Rattle.std.proofs.shelf.Tests.{and-parts, cases-eq}
 use Rattle.model.specs.Image.{Image, Write}
 use Rattle.model.specs.Refusals.{entries as full, inside, lost, misspelt, start, taken, mkdir, move, picked}
 use Rattle.model.specs.Names.{names, spelt, Path, within, proper-name, padded}
@@ -18,14 +18,13 @@ use Rattle.model.specs.Tree.{Kind, directory, file, is-some}
 use Rattle.model.specs.Book.{last}
 use Rattle.model.specs.Volume.{holder, is-dir, named, climb, checks, starts, leads, free-entry, or-zero, new-entry, renamed, tables-after, dirs-write, files-write, entry-write, sector-writes}
 use Rattle.model.specs.Sound.{Shaped, Live, Sound}
-use Rattle.model.proofs.Common.Searches.{first-some}
 use Rattle.model.proofs.Common.Tests.{some-out, none-out}
 use Rattle.model.proofs.Store.Writes.{Able, look-off, look-head}
 use Rattle.model.proofs.Naming.Spelling.{trimmed-padded, padded-live, proper-parts, length-padded, last-spelt}
 use Rattle.model.proofs.Tables.Climbs.{Place, place-climbs}
 use Rattle.model.proofs.Tables.Loads.{Holds, alive-from, dirs-back, files-back, dirs-512, files-512, Next}
 use Rattle.model.proofs.Tables.Rules.{held-from}
-use Rattle.model.proofs.Tables.Walks.{child-none, untaken, Found, found, Fresh, fresh-entry, not-inside}
+use Rattle.model.proofs.Tables.Walks.{free-at, child-none, untaken, Found, found, Fresh, fresh-entry, not-inside}
 use Rattle.model.proofs.Calls.Checks.{pass, pass-not}
 use Rattle.model.proofs.Calls.Entries.{at, Treed, Avoids, dead-avoids, avoids-out, Named, dir-placed, file-placed}
 use Rattle.model.proofs.Calls.Rows.{Rowed, treed-from, rowed-from, sound-from, rowed-same}
@@ -155,8 +154,8 @@ module _ (i : Image) (t : Tables) (shaped : Shaped t) (holds : Holds i t) (facts
       (alone-files t d p s h to none (shaped .files-many)))
       rows
     where
-      f : (n < length (t .dirs)) × (not (live (at (t .dirs) n)) ≡ true)
-      f = first-some (λ e. not (live e)) no-entry (t .dirs) n free
+      f : (n < length (t .dirs)) × (live (at (t .dirs) n) ≡ false)
+      f = free-at (t .dirs) n free
 
       small : n < 32
       small = subst (λ m. n < m) (shaped .dirs-many) (f .0)
@@ -168,7 +167,7 @@ module _ (i : Image) (t : Tables) (shaped : Shaped t) (holds : Holds i t) (facts
       put = fresh-entry i t shaped facts d p s held (ap is-some to)
 
       away : Avoids (t .dirs) n 32 (new-entry t d p .parent)
-      away = dead-avoids (t .dirs) n (not-true (live (at (t .dirs) n)) (f .1)) 32 (new-entry t d p .parent) (place-climbs i t facts (new-entry t d p .parent) (put .placed))
+      away = dead-avoids (t .dirs) n (f .1) 32 (new-entry t d p .parent) (place-climbs i t facts (new-entry t d p .parent) (put .placed))
 
   pub mkdir-next : (d : ℕ) (p : List ℕ) → picked (checks t i (mkdir d p)) ≡ None → Next i (tables-after t (mkdir d p)) (sector-writes t (mkdir d p) (tables-after t (mkdir d p)))
   mkdir-next d p h =

@@ -1,7 +1,7 @@
 -- What write leaves: a new file with its row and its sectors.
 use mathlib.Core.Path.{_≡_, refl, sym, ap, subst, _∙_}
 use mathlib.Core.Logic.{_⊎_, inl, inr}
-use mathlib.Core.Bool.{true, false, not, _&&_}
+use mathlib.Core.Bool.{true, false, _&&_}
 use mathlib.Core.List.{List, [], _∷_, _++_}
 use Prim.Native.Nat.{ℕ, zero, suc, _+_, _-_, _*_, _%_, _≤_, _<_}
 use native.Mathlib.Omega.{arith}
@@ -9,17 +9,16 @@ use lib.Dec.{leb, eqb}
 use lib.ListN.{length, getD, set, replicate}
 use Rattle.std.specs.declared.option.Option.the-variants.{Some, None}
 use Rattle.std.proofs.shelf.Lists.{getD-append-right, getD-set-other, getD-set-same, length-append, length-replicate, length-set}
-use Rattle.std.proofs.shelf.Tests.{and-parts, cases-eq, leb-true, not-true}
+use Rattle.std.proofs.shelf.Tests.{and-parts, cases-eq, leb-true}
 use Rattle.model.specs.Image.{Image, Write}
 use Rattle.model.specs.Refusals.{entries as full, lost, misspelt, sectors, size, start, taken, write, picked}
 use Rattle.model.specs.Names.{names, spelt}
-use Rattle.model.specs.Tables.{Entry, Tables, no-entry, live, used, entries-bytes, rows-bytes, data-sector, member, distinct}
+use Rattle.model.specs.Tables.{Entry, Tables, live, used, entries-bytes, rows-bytes, data-sector, member, distinct}
 use Rattle.model.specs.Tree.{is-some}
 use Rattle.model.specs.History.{whole-sectors}
 use Rattle.model.specs.Volume.{holder, named, checks, starts, leads, free-entry, room-for, marked, or-zero, new-entry, given, tables-after, data-writes, map-write, files-write, rows-write, sector-writes}
 use Rattle.model.specs.Sound.{Shaped, ProperRow, Sound}
 use Rattle.model.proofs.Common.Members.{at-member}
-use Rattle.model.proofs.Common.Searches.{first-some}
 use Rattle.model.proofs.Common.Tests.{refute, some-out, none-out}
 use Rattle.model.proofs.Store.Bodies.{data-able, data-off}
 use Rattle.model.proofs.Store.Writes.{Able, look-off, look-head, look-later, able-append, look-after}
@@ -28,7 +27,7 @@ use Rattle.model.proofs.Tables.Free.{Spare, given-spare, given-distinct, given
 use Rattle.model.proofs.Tables.Loads.{Holds, alive-from, files-back, rows-again, files-512, rows-512, Next}
 use Rattle.model.proofs.Tables.Places.{used-at, length-marked, used-padded}
 use Rattle.model.proofs.Tables.Rules.{data-from, held-from}
-use Rattle.model.proofs.Tables.Walks.{fresh-entry}
+use Rattle.model.proofs.Tables.Walks.{free-at, fresh-entry}
 use Rattle.model.proofs.Calls.Checks.{pass, pass-not}
 use Rattle.model.proofs.Calls.Entries.{at, Treed, Named, file-placed}
 use Rattle.model.proofs.Calls.Makes.{new-named, new-long, alone-dirs, alone-files, named-set}
@@ -148,14 +147,14 @@ module _ (i : Image) (t : Tables) (shaped : Shaped t) (holds : Holds i t) (facts
 
   written-next : (d : ℕ) (p w : List ℕ) → spelt p ≡ true → Place (t .dirs) d → (j : ℕ) → free-entry (t .files) ≡ Some j → (h : ℕ) → holder t d (names p) ≡ Some h → named t d p ≡ None → (ss : List ℕ) → 1 ≤ length ss → length ss ≤ 16 → length ss * 512 ≤ length w → distinct ss ≡ true → ((s : ℕ) → member s ss ≡ true → Spare i t shaped facts s) → Written-by d p w j ss
   written-next d p w s held j free h to none ss some few fits apart spare =
-      filled-next i t shaped holds facts j small (not-true (live (at (t .files) j)) (f .1)) (new-entry t d p) fresh (new-long t d p s) ss w some few fits apart spare
+      filled-next i t shaped holds facts j small (f .1) (new-entry t d p) fresh (new-long t d p s) ss w some few fits apart spare
       (file-placed (t .files) j (new-entry t d p) (f .0) small fresh (t .dirs) (treed-from i t shaped facts)
       (fresh-entry i t shaped facts d p s held (ap is-some to) .placed)
       (alone-dirs t d p s h to none (shaped .dirs-many))
       (λ c ne. alone-files t d p s h to none (shaped .files-many) c))
     where
-      f : (j < length (t .files)) × (not (live (at (t .files) j)) ≡ true)
-      f = first-some (λ e. not (live e)) no-entry (t .files) j free
+      f : (j < length (t .files)) × (live (at (t .files) j) ≡ false)
+      f = free-at (t .files) j free
 
       small : j < 32
       small = subst (λ m. j < m) (shaped .files-many) (f .0)

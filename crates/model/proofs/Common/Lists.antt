@@ -8,7 +8,6 @@ use lib.ListN.{length, getD, replicate}
 use Rattle.model.specs.Law.{from-to}
 use Rattle.model.specs.Order.{In}
 
--- one more name at the end ------------------------------------------------------------------------
 pub push-never-nil : {A : Type 0} (xs : List A) (x : A) → xs ++ x ∷ [] ≡ [] → ⊥
 push-never-nil [] x e = let z : _≡_ {A = ℕ} 1 0 = ap length e in omega arith
 push-never-nil (y ∷ xs) x e = let z : _≡_ {A = ℕ} (suc (length (xs ++ x ∷ []))) 0 = ap length e in omega arith
@@ -26,6 +25,7 @@ split (x ∷ p) (y ∷ q) r s n e =
     let k0 = k .0 in
     ((cc), k .1)
 
+-- a list made from a function ----------------------------------------------------------------------
 pub length-from : {A : Type 0} (a n : ℕ) (f : ℕ → A) → length (from-to a n f) ≡ n
 length-from a zero f = refl
 length-from a (suc n) f = ap suc (length-from (suc a) n f)
@@ -39,6 +39,7 @@ pub map-replicate : {A B : Type 0} (f : A → B) (n : ℕ) (a : A) → map f (re
 map-replicate f zero a = refl
 map-replicate f (suc n) a = ap (λ x. f a ∷ x) (map-replicate f n a)
 
+-- one of a list ------------------------------------------------------------------------------------
 pub in-left : {A : Type 0} (a : A) (xs ys : List A) → In a xs → In a (xs ++ ys)
 in-left a [] ys h = absurd h
 in-left a (x ∷ xs) ys (inl e) = inl e
@@ -61,3 +62,16 @@ pub in-getD : {A : Type 0} (xs : List A) (k : ℕ) (d : A) → k < length xs →
 in-getD [] k d h = absurd (omega arith)
 in-getD (x ∷ xs) zero d h = inl refl
 in-getD (x ∷ xs) (suc k) d h = inr (in-getD xs k d (omega arith))
+
+-- R holds of each and all later ones
+abbrev pub Pairs : {A : Type 0} → (A → A → Type 0) → List A → Type 0
+Pairs R [] = Unit {0}
+Pairs {A} R (x ∷ xs) = ((y : A) → In y xs → R x y) × Pairs R xs
+
+pub pairs-append : {A : Type 0} (R : A → A → Type 0) (xs ys : List A) → Pairs R xs → Pairs R ys → ((x y : A) → In x xs → In y ys → R x y) → Pairs R (xs ++ ys)
+pairs-append R [] ys a b d = b
+pairs-append {A} R (x ∷ xs) ys a b d = ((λ y h. go y (in-append y xs ys h)), pairs-append R xs ys (a .1) b (λ u v h k. d u v (inr h) k))
+  where
+    go : (y : A) → In y xs ⊎ In y ys → R x y
+    go y (inl h) = a .0 y h
+    go y (inr h) = d x y (inl refl) h

@@ -1,13 +1,12 @@
 -- Numbers in a list, and lists in which no number stands twice.
 use mathlib.Core.Path.{_≡_, refl, sym, ap, subst, _∙_}
-use mathlib.Core.Logic.{_⊎_, inl, inr}
-use mathlib.Core.Bool.{Bool, true, false, cond, not, _&&_, _||_}
+use mathlib.Core.Bool.{Bool, true, false, not, _&&_, _||_}
 use mathlib.Core.List.{List, [], _∷_, _++_}
-use Prim.Native.Nat.{ℕ, zero, suc, _≤_, _<_}
+use Prim.Native.Nat.{ℕ, zero, suc, _<_}
 use native.Mathlib.Omega.{arith}
 use lib.Dec.{eqb}
 use lib.ListN.{length, getD, take}
-use Rattle.std.proofs.shelf.Tests.{and-from, and-parts, both-ways, eq-eqb, eqb-false, eqb-true, false≢true, not-from-false, not-true, or-cases, or-from, or-left, or-parts, or-right}
+use Rattle.std.proofs.shelf.Tests.{and-from, and-parts, both-ways, eq-eqb, eqb-true, false≢true, not-from-false, not-true, or-from, or-left, or-parts, or-right}
 use Rattle.model.specs.Tables.{member, distinct}
 use Rattle.model.proofs.Common.Tests.{refute}
 
@@ -86,64 +85,3 @@ take-distinct (suc n) [] h = refl
 take-distinct (suc n) (y ∷ xs) h =
     let a = and-parts (not (member y xs)) (distinct xs) h in
     and-from (not (member y (take n xs))) (distinct (take n xs)) (not-from-false (member y (take n xs)) (refute (member y (take n xs)) (λ k. both-ways (member y xs) (not-true (member y xs) (a .0)) (take-member n y xs k)))) (take-distinct n xs (a .1))
-
--- distinct numbers below n are at most n ------------------------------------------------------------
-abbrev omit : ℕ → List ℕ → List ℕ
-omit m [] = []
-omit m (x ∷ xs) = cond (eqb x m) (omit m xs) (x ∷ omit m xs)
-
-omit-member : (m s : ℕ) (xs : List ℕ) → member s (omit m xs) ≡ true → (member s xs ≡ true) × (s ≡ m → ⊥)
-omit-member m s [] h = absurd (false≢true h)
-omit-member m s (x ∷ xs) h = go (λ k. omit-member m s xs k) (eqb x m) refl h
-  where
-    later : (member s xs ≡ true) × (s ≡ m → ⊥) → (member s (x ∷ xs) ≡ true) × (s ≡ m → ⊥)
-    later r = (or-right (eqb s x) (member s xs) (r .0), r .1)
-
-    pick : (member s (omit m xs) ≡ true → (member s xs ≡ true) × (s ≡ m → ⊥)) → eqb x m ≡ false → (eqb s x ≡ true) ⊎ (member s (omit m xs) ≡ true) → (member s (x ∷ xs) ≡ true) × (s ≡ m → ⊥)
-    pick ih n (inl e) = (or-left (eqb s x) (member s xs) e, λ q. eqb-false x m n (sym (eqb-true s x e) ∙ q))
-    pick ih n (inr k) = later (ih k)
-
-    go : (member s (omit m xs) ≡ true → (member s xs ≡ true) × (s ≡ m → ⊥)) → (b : Bool) → eqb x m ≡ b → member s (cond b (omit m xs) (x ∷ omit m xs)) ≡ true → (member s (x ∷ xs) ≡ true) × (s ≡ m → ⊥)
-    go ih true p k = later (ih k)
-    go ih false p k = pick ih p (or-cases (eqb s x) (member s (omit m xs)) k)
-
-omit-absent : (m : ℕ) (xs : List ℕ) → member m xs ≡ false → length (omit m xs) ≡ length xs
-omit-absent m [] h = refl
-omit-absent m (x ∷ xs) h =
-    let u = or-parts (eqb m x) (member m xs) h in
-    go (eqb x m) refl (u .0) (omit-absent m xs (u .1))
-  where
-    go : (b : Bool) → eqb x m ≡ b → eqb m x ≡ false → length (omit m xs) ≡ length xs → length (cond b (omit m xs) (x ∷ omit m xs)) ≡ length (x ∷ xs)
-    go true p n ih = absurd (eqb-false m x n (sym (eqb-true x m p)))
-    go false p n ih = ap suc ih
-
-omit-length : (m : ℕ) (xs : List ℕ) → distinct xs ≡ true → length xs ≤ suc (length (omit m xs))
-omit-length m [] d = omega arith
-omit-length m (x ∷ xs) d =
-    let u = and-parts (not (member x xs)) (distinct xs) d in
-    go (eqb x m) refl (not-true (member x xs) (u .0)) (omit-length m xs (u .1))
-  where
-    go : (b : Bool) → eqb x m ≡ b → member x xs ≡ false → length xs ≤ suc (length (omit m xs)) → suc (length xs) ≤ suc (length (cond b (omit m xs) (x ∷ omit m xs)))
-    go true p n ih = let e : length (omit m xs) ≡ length xs = omit-absent m xs (subst (λ y. member y xs ≡ false) (eqb-true x m p) n) in omega arith
-    go false p n ih = omega arith
-
-omit-distinct : (m : ℕ) (xs : List ℕ) → distinct xs ≡ true → distinct (omit m xs) ≡ true
-omit-distinct m [] d = refl
-omit-distinct m (x ∷ xs) d =
-    let u = and-parts (not (member x xs)) (distinct xs) d in
-    go (eqb x m) (not-true (member x xs) (u .0)) (omit-distinct m xs (u .1))
-  where
-    go : (b : Bool) → member x xs ≡ false → distinct (omit m xs) ≡ true → distinct (cond b (omit m xs) (x ∷ omit m xs)) ≡ true
-    go true n ih = ih
-    go false n ih = and-from (not (member x (omit m xs))) (distinct (omit m xs)) (not-from-false (member x (omit m xs)) (refute (member x (omit m xs)) (λ k. both-ways (member x xs) n (omit-member m x xs k .0)))) ih
-
-pub few : (n : ℕ) (xs : List ℕ) → distinct xs ≡ true → ((s : ℕ) → member s xs ≡ true → s < n) → length xs ≤ n
-few zero [] d h = omega arith
-few zero (x ∷ xs) d h = let z : x < 0 = h x (or-left (eqb x x) (member x xs) (eq-eqb x x refl)) in absurd (omega arith)
-few (suc n) xs d h =
-    let a = omit-length n xs d in
-    let ih : length (omit n xs) ≤ n = few n (omit n xs) (omit-distinct n xs d) (λ s m. let r = omit-member n s xs m in let b = h s (r .0) in below s b (r .1)) in
-    omega arith
-  where
-    below : (s : ℕ) → s < suc n → (s ≡ n → ⊥) → s < n
-    below s b ne = omega arith

@@ -9,7 +9,6 @@ use Rattle.std.specs.declared.option.Option.{Option}
 use Rattle.std.specs.declared.option.Option.the-variants.{Some, None}
 use Rattle.model.specs.Tree.{raised, first}
 
--- searches ----------------------------------------------------------------------------------------
 pub first-some : {A : Type 0} (f : A → Bool) (d : A) (xs : List A) (n : ℕ) → first f xs ≡ Some n → (n < length xs) × (f (getD xs n d) ≡ true)
 first-some f d [] n e = let z : _≡_ {A = ℕ} 0 1 = cc in absurd (let w : ⊥ = omega arith in w)
 first-some f d (x ∷ xs) n e = go (f x) refl (first f xs) refl (first-some f d xs) n e

@@ -16,7 +16,6 @@ pub refute : (b : Bool) → (b ≡ true → ⊥) → b ≡ false
 refute true h = absurd (h refl)
 refute false h = refl
 
--- the first that passes --------------------------------------------------------------------------------
 pub no-some : {A : Type 0} (a : A) → _≡_ {A = Option A} None (Some a) → ⊥
 no-some a e = let z : _≡_ {A = ℕ} 0 1 = cc in omega arith
 

@@ -38,11 +38,11 @@ same-path-refl (n ∷ p) = and-from (same-name n n) (same-path p p) (same-name-r
 pub eq-same-path : (p q : Path) → p ≡ q → same-path p q ≡ true
 eq-same-path p q e = rw e (same-path-refl q)
 
+-- a path within another ----------------------------------------------------------------------------
 pub within-below : (b p q : Path) → within (b ++ p) (b ++ q) ≡ within p q
 within-below [] p q = refl
 within-below (n ∷ b) p q = rw (same-name-refl n) (within-below b p q)
 
--- within ------------------------------------------------------------------------------------------
 pub within-self : (p q : Path) → within p (p ++ q) ≡ true
 within-self [] q = refl
 within-self (n ∷ p) q = and-from (same-name n n) (within p (p ++ q)) (same-name-refl n) (within-self p q)
@@ -84,6 +84,7 @@ within-deeper p q m h = within-push p q m ∙ ap (λ b. b || within p q) (not-sa
 pub within-up : (p q : Path) (m : Name) → within p (q ++ m ∷ []) ≡ false → within p q ≡ false
 within-up p q m h = refute (within p q) (λ e. let z : true ≡ false = sym (ap (λ b. same-path p (q ++ m ∷ []) || b) e ∙ or-right (same-path p (q ++ m ∷ [])) true refl) ∙ sym (within-push p q m) ∙ h in false≢true (sym z))
 
+-- a path that is carried along ---------------------------------------------------------------------
 abbrev pub shift : Path → Path → Path → Path
 shift p q r = cond (within p r) (q ++ drop (length p) r) r
 

@@ -11,7 +11,7 @@ use Rattle.model.specs.Names.{names, spelt, Name, Path, proper-byte, all-prope
 use Rattle.model.specs.Tables.{trimmed}
 use Rattle.model.specs.Book.{parent, last}
 
--- names -------------------------------------------------------------------------------------------
+-- names in entries ---------------------------------------------------------------------------------
 pub trimmed-zeros : (k : ℕ) → trimmed (replicate k 0) ≡ []
 trimmed-zeros zero = refl
 trimmed-zeros (suc k) = refl

@@ -39,7 +39,7 @@ pub body-same : (i j : Image) (ss : List ℕ) → ((k : ℕ) → k < length ss �
 body-same i j [] h = refl
 body-same i j (s ∷ ss) h = ap₂ (λ (x y : List ℕ). x ++ y) (ap bytes-or-blank (h 0 (omega arith))) (body-same i j ss (λ k l. h (suc k) (omega arith)))
 
--- the data ------------------------------------------------------------------------------------------------
+-- the data that is put -----------------------------------------------------------------------------
 pub data-able : (i : Image) (ss w : List ℕ) → ((s : ℕ) → member s ss ≡ true → is-ok (look i s) ≡ true) → length ss * 512 ≤ length w → Able i (data-writes ss w)
 data-able i [] w ok l = tt
 data-able i (s ∷ ss) w ok l = (
@@ -54,7 +54,6 @@ data-able i (s ∷ ss) w ok l = (
     fewer : (a b : ℕ) → suc a * 512 ≤ b → a * 512 ≤ b - 512
     fewer a b l = omega arith
 
--- the data written --------------------------------------------------------------------------------
 pub data-off : (ss w : List ℕ) (ws : List Write) (x : ℕ) → member x ss ≡ false → Off x ws → Off x (data-writes ss w ++ ws)
 data-off [] w ws x h o = o
 data-off (s ∷ ss) w ws x h o = let a = or-parts (eqb x s) (member x ss) h in (eqb-false x s (a .0), data-off ss (drop 512 w) ws x (a .1) o)

@@ -10,7 +10,7 @@ use lib.ListN.{length}
 use Rattle.std.proofs.shelf.Tests.{and-from, both-ways, eq-eqb, eqb-true, ne-eqb, not-from-false, or-cases}
 use Rattle.model.specs.Tables.{root, Entry, member, distinct, climbs}
 use Rattle.model.specs.Sound.{Live}
-use Rattle.model.proofs.Common.Members.{few}
+use Rattle.model.proofs.Common.Counts.{few}
 use Rattle.model.proofs.Common.Tests.{refute}
 use Rattle.model.proofs.Tables.Climbs.{up, Step, climbs-cases, climbs-root, climbs-more, climbs-zero, climbs-mono}
 

@@ -10,13 +10,13 @@ use lib.ListN.{length, getD}
 use Rattle.std.specs.declared.option.Option.{Option}
 use Rattle.std.specs.declared.option.Option.the-variants.{Some, None}
 use Rattle.std.proofs.shelf.Lists.{append-assoc, append-nil}
-use Rattle.std.proofs.shelf.Tests.{and-from, and-parts, both-ways, eq-eqb, eqb-true, false≢true}
+use Rattle.std.proofs.shelf.Tests.{and-from, and-parts, both-ways, eq-eqb, eqb-true, false≢true, not-true}
 use Rattle.model.specs.Image.{Image}
 use Rattle.model.specs.Names.{names, spelt, Name, Path, same-name, within, proper-name, all-names, padded}
 use Rattle.model.specs.Tables.{Entry, Tables, no-entry, live, trimmed}
 use Rattle.model.specs.Tree.{Kind, directory, file}
 use Rattle.model.specs.Book.{parent, last}
-use Rattle.model.specs.Volume.{is-child, child, either-kind, walk, item-in, holder, item, is-dir, is-file, named, climb, item-path, leads, or-zero, new-entry}
+use Rattle.model.specs.Volume.{is-child, child, either-kind, walk, item-in, holder, item, is-dir, is-file, named, climb, item-path, leads, free-entry, or-zero, new-entry}
 use Rattle.model.specs.Sound.{Shaped, Live, Sound}
 use Rattle.model.proofs.Common.Searches.{first-some, first-none}
 use Rattle.model.proofs.Common.Tests.{no-some, some-out}
@@ -24,7 +24,13 @@ use Rattle.model.proofs.Naming.Same.{same-name-true, eq-same-name, within-belo
 use Rattle.model.proofs.Naming.Spelling.{trimmed-padded, padded-live, spelt-names, spelt-some, parent-last, parent-names, last-name}
 use Rattle.model.proofs.Tables.Climbs.{Place, climb-live}
 
--- children ----------------------------------------------------------------------------------------
+-- entries and children -----------------------------------------------------------------------------
+pub live-at : (es : List Entry) → length es ≡ 32 → (k : ℕ) → k < length es → live (getD es k no-entry) ≡ true → Live es k
+live-at es many k l e = (subst (λ m. k < m) many l, e)
+
+pub free-at : (es : List Entry) (m : ℕ) → free-entry es ≡ Some m → (m < length es) × (live (getD es m no-entry) ≡ false)
+free-at es m e = let a = first-some (λ e. not (live e)) no-entry es m e in (a .0, not-true (live (getD es m no-entry)) (a .1))
+
 pub child-live : (d : ℕ) (n : Name) (e : Entry) → proper-name n ≡ true → is-child d n e ≡ true → live e ≡ true
 child-live d n e p h =
     let v = same-name-true (e .name) (padded n) (and-parts (eqb (e .parent) d) (same-name (e .name) (padded n)) h .1) in

@@ -1,6 +1,6 @@
 -- The room that the map leaves is the room that the tree leaves.
-use mathlib.Core.Path.{_≡_, refl, sym, subst, _∙_}
-use mathlib.Core.Bool.{Bool, true, false, cond, not, _||_}
+use mathlib.Core.Path.{_≡_, refl, sym, _∙_}
+use mathlib.Core.Bool.{Bool, true, false, cond}
 use mathlib.Core.List.{List, [], _∷_, _++_}
 use Prim.Native.Nat.{ℕ, zero, suc, _+_, _-_, _≤_, _<_}
 use native.Mathlib.Omega.{arith}
@@ -8,13 +8,14 @@ use lib.Dec.{eqb}
 use lib.ListN.{length, getD}
 use Rattle.std.specs.declared.option.Option.the-variants.{Some, None}
 use Rattle.std.proofs.shelf.Lists.{length-append}
-use Rattle.std.proofs.shelf.Tests.{and-parts, both-ways, eq-eqb, eqb-false, eqb-true, ne-eqb, not-true, or-left, or-right}
+use Rattle.std.proofs.shelf.Tests.{both-ways}
 use Rattle.model.specs.Image.{bytes, Image, look, is-ok}
-use Rattle.model.specs.Tables.{Entry, Tables, no-entry, live, used, data-sector, live-places, member, distinct}
+use Rattle.model.specs.Tables.{Entry, Tables, no-entry, live, used, data-sector, live-places, member}
 use Rattle.model.specs.Tree.{sectors-of}
 use Rattle.model.specs.Volume.{item-path, body, file-items, tree-of, free-from, free-sectors}
 use Rattle.model.specs.Sound.{Shaped, ProperRow, Sound}
 use Rattle.model.specs.Law.{whole, count, room}
+use Rattle.model.proofs.Common.Counts.{count-add, count-member}
 use Rattle.model.proofs.Tables.Places.{member-named, row-length}
 use Rattle.model.proofs.Tables.Rules.{data-range, data-from, distinct-ok}
 
@@ -26,38 +27,6 @@ sectors-used ds i (e ∷ es) (r ∷ rs) w l h = go (live e) refl (sectors-used d
     go : (b : Bool) → live e ≡ b → sectors-of (file-items ds i es rs) ≡ length (live-places es rs) → sectors-of (cond b (Some (record { path = item-path ds e; bytes = body i (used r) })) None ∷ file-items ds i es rs) ≡ length (cond b (used r ++ live-places es rs) (live-places es rs))
     go true v ih = let a = row-length i r w (h 0 (omega arith) v) in let b = length-append (used r) (live-places es rs) in omega arith
     go false v ih = ih
-
--- counts ------------------------------------------------------------------------------------------
-pub count-add : (f g h : ℕ → Bool) (n a : ℕ) → ((s : ℕ) → a ≤ s → s < a + n → cond (f s) 1 0 ≡ cond (g s) 1 0 + cond (h s) 1 0) → count f a n ≡ count g a n + count h a n
-count-add f g h zero a e = refl
-count-add f g h (suc n) a e = let x = e a (omega arith) (omega arith) in let ih = count-add f g h n (suc a) (λ s l m. e s (omega arith) (omega arith)) in omega arith
-
-pub count-none : (f : ℕ → Bool) (n a : ℕ) → ((s : ℕ) → a ≤ s → s < a + n → f s ≡ false) → count f a n ≡ 0
-count-none f zero a e = refl
-count-none f (suc n) a e = let ih = count-none f n (suc a) (λ s l m. e s (omega arith) (omega arith)) in rw (e a (omega arith) (omega arith)) (omega arith)
-
-pub count-one : (x n a : ℕ) → a ≤ x → x < a + n → count (λ s. eqb s x) a n ≡ 1
-count-one x zero a l m = absurd (let w : ⊥ = omega arith in w)
-count-one x (suc n) a l m = go (eqb a x) refl (count-one x n (suc a))
-  where
-    go : (b : Bool) → eqb a x ≡ b → (suc a ≤ x → x < suc a + n → count (λ s. eqb s x) (suc a) n ≡ 1) → cond b 1 0 + count (λ s. eqb s x) (suc a) n ≡ 1
-    go true h ih = let e = eqb-true a x h in let z = count-none (λ s. eqb s x) n (suc a) (λ s l m. ne-eqb s x (λ q. omega arith)) in omega arith
-    go false h ih = let e = eqb-false a x h in let z = ih (omega arith) (omega arith) in omega arith
-
-pub count-member : (xs : List ℕ) (n a : ℕ) → distinct xs ≡ true → ((s : ℕ) → member s xs ≡ true → (a ≤ s) × (s < a + n)) → count (λ s. member s xs) a n ≡ length xs
-count-member [] n a d h = count-none (λ s. false) n a (λ s l m. refl)
-count-member (x ∷ xs) n a d h =
-    let b = and-parts (not (member x xs)) (distinct xs) d in
-    let r = h x (or-left (eqb x x) (member x xs) (eq-eqb x x refl)) in
-    let one = count-one x n a (r .0) (r .1) in
-    let ih = count-member xs n a (b .1) (λ s m. h s (or-right (eqb s x) (member s xs) m)) in
-    count-add (λ s. member s (x ∷ xs)) (λ s. eqb s x) (λ s. member s xs) n a (λ s l m. go s (eqb s x) refl (member s xs) refl (not-true (member x xs) (b .0))) ∙ omega arith
-  where
-    go : (s : ℕ) (p : Bool) → eqb s x ≡ p → (q : Bool) → member s xs ≡ q → member x xs ≡ false → cond (p || q) 1 0 ≡ cond p 1 0 + cond q 1 0
-    go s true e true f k = absurd (both-ways (member x xs) k (subst (λ y. member y xs ≡ true) (eqb-true s x e) f))
-    go s true e false f k = refl
-    go s false e true f k = refl
-    go s false e false f k = refl
 
 pub length-free : (ms : List ℕ) (n s : ℕ) → length (free-from ms s n) ≡ count (λ s. eqb (getD ms s 1) 0) s n
 length-free ms zero s = refl

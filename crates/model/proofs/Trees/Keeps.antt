@@ -1,21 +1,18 @@
 -- What tells two items apart, and what stays of an item while other entries change.
 use mathlib.Core.Path.{_≡_, refl, sym, ap, _∙_}
-use mathlib.Core.Bool.{Bool, true, false, cond, not}
+use mathlib.Core.Bool.{Bool, true, false, cond}
 use mathlib.Core.List.{List, [], _∷_}
-use Prim.Native.Nat.{ℕ, _≤_, _<_}
-use native.Mathlib.Omega.{arith}
+use Prim.Native.Nat.{ℕ, _≤_}
 use lib.ListN.{length, getD, set}
 use Rattle.std.specs.declared.option.Option.{Option}
 use Rattle.std.specs.declared.option.Option.the-variants.{Some, None}
 use Rattle.std.proofs.shelf.Lists.{same-from-push}
-use Rattle.std.proofs.shelf.Tests.{not-true}
 use Rattle.model.specs.Image.{Image, look}
 use Rattle.model.specs.Names.{Path, padded}
 use Rattle.model.specs.Tables.{Entry, Tables, no-entry, live, trimmed, used}
 use Rattle.model.specs.Tree.{Item, unless-gone, carried}
-use Rattle.model.specs.Volume.{climb, item-path, body, free-entry, first-bytes}
+use Rattle.model.specs.Volume.{climb, item-path, body, first-bytes}
 use Rattle.model.specs.Sound.{Shaped, Live, Proper, Sound}
-use Rattle.model.proofs.Common.Searches.{first-some}
 use Rattle.model.proofs.Naming.Same.{shift}
 use Rattle.model.proofs.Tables.Climbs.{one-place}
 use Rattle.model.proofs.Tables.Rules.{row-same}
@@ -54,20 +51,8 @@ module _ (i : Image) (t : Tables) (shaped : Shaped t) (s : Sound i t) where
   pub kinds-two : (d f : ℕ) → Live (t .dirs) d → Live (t .files) f → item-path (t .dirs) (getD (t .dirs) d no-entry) ≡ item-path (t .dirs) (getD (t .files) f no-entry) → ⊥
   kinds-two d f l m h = let z = entry-tells (getD (t .dirs) d no-entry) (getD (t .files) f no-entry) (s .dirs-proper d l) (s .files-proper f m) h in s .kinds-apart d f l m (z .0) (z .1)
 
-  pub live-dir-at : (k : ℕ) → k < length (t .dirs) → live (getD (t .dirs) k no-entry) ≡ true → Live (t .dirs) k
-  live-dir-at k l e = let m = shaped .dirs-many in (omega arith, e)
-
-  pub live-file-at : (k : ℕ) → k < length (t .files) → live (getD (t .files) k no-entry) ≡ true → Live (t .files) k
-  live-file-at k l e = let m = shaped .files-many in (omega arith, e)
-
   pub rows-same : length (t .files) ≡ length (t .rows)
   rows-same = shaped .files-many ∙ sym (shaped .rows-many)
 
   pub body-kept : (j : Image) → ((r : ℕ) → r ≤ 255 → look j r ≡ look i r) → (k : ℕ) → Live (t .files) k → body j (used (getD (t .rows) k [])) ≡ body i (used (getD (t .rows) k []))
   body-kept j h k l = row-same i j (getD (t .rows) k []) (s .rows-proper k l) h
-
-  pub free-dir : (m : ℕ) → free-entry (t .dirs) ≡ Some m → (m < length (t .dirs)) × (live (getD (t .dirs) m no-entry) ≡ false)
-  free-dir m e = let a = first-some (λ e. not (live e)) no-entry (t .dirs) m e in (a .0, not-true (live (getD (t .dirs) m no-entry)) (a .1))
-
-  pub free-file : (m : ℕ) → free-entry (t .files) ≡ Some m → (m < length (t .files)) × (live (getD (t .files) m no-entry) ≡ false)
-  free-file m e = let a = first-some (λ e. not (live e)) no-entry (t .files) m e in (a .0, not-true (live (getD (t .files) m no-entry)) (a .1))

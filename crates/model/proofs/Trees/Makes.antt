@@ -21,17 +21,17 @@ use Rattle.model.proofs.Common.Tests.{some-out}
 use Rattle.model.proofs.Store.Writes.{data-kept}
 use Rattle.model.proofs.Naming.Same.{eq-same-path, not-same}
 use Rattle.model.proofs.Tables.Climbs.{Place, place-climbs}
-use Rattle.model.proofs.Tables.Walks.{found, file-out, Fresh, fresh-entry}
+use Rattle.model.proofs.Tables.Walks.{live-at, free-at, found, file-out, Fresh, fresh-entry}
 use Rattle.model.proofs.Tables.Ways.{climb-kept}
 use Rattle.model.proofs.Trees.Items.{dir-item, file-item, unused-dirs, from-start}
-use Rattle.model.proofs.Trees.Keeps.{freed-gone, gone-not, gone-so, files-one, live-dir-at, live-file-at, rows-same, body-kept, free-dir}
+use Rattle.model.proofs.Trees.Keeps.{freed-gone, gone-not, gone-so, files-one, rows-same, body-kept}
 use Rattle.model.proofs.Trees.Slots.{same-tree, it-same, it-gone, it-there, dirs-put, files-keep, files-map}
 use Rattle.model.proofs.Calls.Checks.{pass-not}
 
 module _ (i : Image) (t : Tables) (shaped : Shaped t) (s : Sound i t) where
   module _ (m : ℕ) (free : free-entry (t .dirs) ≡ Some m) (e : Entry) (p : Path) (f : Fresh (t .dirs) e p) where
     others : (k : ℕ) → live (getD (t .dirs) k no-entry) ≡ true → getD (set (t .dirs) m e) k no-entry ≡ getD (t .dirs) k no-entry
-    others k l = getD-set-other (t .dirs) m k e no-entry (λ z. both-ways (live (getD (t .dirs) k no-entry)) (ap (λ y. live (getD (t .dirs) y no-entry)) z ∙ free-dir i t shaped s m free .1) l)
+    others k l = getD-set-other (t .dirs) m k e no-entry (λ z. both-ways (live (getD (t .dirs) k no-entry)) (ap (λ y. live (getD (t .dirs) y no-entry)) z ∙ free-at (t .dirs) m free .1) l)
 
     climb-same : (d : ℕ) → Place (t .dirs) d → climb (set (t .dirs) m e) 32 d ≡ climb (t .dirs) 32 d
     climb-same d h = climb-kept (t .dirs) (set (t .dirs) m e) (λ k. Unit {0}) (λ k l u. (others k (l .1), tt)) 32 d (place-climbs i t s d h) tt
@@ -40,16 +40,16 @@ module _ (i : Image) (t : Tables) (shaped : Shaped t) (s : Sound i t) where
     path-same x h = ap (λ c. c ++ trimmed (x .name) ∷ []) (climb-same (x .parent) h)
 
     dirs-made : dir-items (set (t .dirs) m e) (set (t .dirs) m e) ≡ set (dir-items (t .dirs) (t .dirs)) m (Some (record { path = p; bytes = [] }))
-    dirs-made = dirs-put (t .dirs) (set (t .dirs) m e) (t .dirs) (set (t .dirs) m e) (length-set (t .dirs) m e) m (Some (record { path = p; bytes = [] })) (free-dir i t shaped s m free .0)
-        (ap (dir-item (set (t .dirs) m e)) (getD-set-same (t .dirs) m e no-entry (free-dir i t shaped s m free .0)) ∙ it-there (live e) (item-path (set (t .dirs) m e) e) p [] [] (f .lives) (path-same e (f .placed) ∙ f .path) refl)
+    dirs-made = dirs-put (t .dirs) (set (t .dirs) m e) (t .dirs) (set (t .dirs) m e) (length-set (t .dirs) m e) m (Some (record { path = p; bytes = [] })) (free-at (t .dirs) m free .0)
+        (ap (dir-item (set (t .dirs) m e)) (getD-set-same (t .dirs) m e no-entry (free-at (t .dirs) m free .0)) ∙ it-there (live e) (item-path (set (t .dirs) m e) e) p [] [] (f .lives) (path-same e (f .placed) ∙ f .path) refl)
         (λ k ne l. ap (dir-item (set (t .dirs) m e)) (getD-set-other (t .dirs) m k e no-entry ne)
-        ∙ it-same (live (getD (t .dirs) k no-entry)) (item-path (set (t .dirs) m e) (getD (t .dirs) k no-entry)) (item-path (t .dirs) (getD (t .dirs) k no-entry)) [] [] (λ v. path-same (getD (t .dirs) k no-entry) (s .dirs-proper k (live-dir-at i t shaped s k l v) .held)) (λ v. refl))
+        ∙ it-same (live (getD (t .dirs) k no-entry)) (item-path (set (t .dirs) m e) (getD (t .dirs) k no-entry)) (item-path (t .dirs) (getD (t .dirs) k no-entry)) [] [] (λ v. path-same (getD (t .dirs) k no-entry) (s .dirs-proper k (live-at (t .dirs) (shaped .dirs-many) k l v) .held)) (λ v. refl))
 
     files-made : (j : Image) → ((r : ℕ) → r ≤ 255 → look j r ≡ look i r) → file-items (set (t .dirs) m e) j (t .files) (t .rows) ≡ file-items (t .dirs) i (t .files) (t .rows)
     files-made j h = files-keep (t .dirs) (set (t .dirs) m e) i j (t .files) (t .files) (t .rows) (t .rows) refl (rows-same i t shaped s) (rows-same i t shaped s)
         (λ k l. it-same (live (getD (t .files) k no-entry)) (item-path (set (t .dirs) m e) (getD (t .files) k no-entry)) (item-path (t .dirs) (getD (t .files) k no-entry)) (body j (used (getD (t .rows) k []))) (body i (used (getD (t .rows) k [])))
-        (λ v. path-same (getD (t .files) k no-entry) (s .files-proper k (live-file-at i t shaped s k l v) .held))
-        (λ v. body-kept i t shaped s j h k (live-file-at i t shaped s k l v)))
+        (λ v. path-same (getD (t .files) k no-entry) (s .files-proper k (live-at (t .files) (shaped .files-many) k l v) .held))
+        (λ v. body-kept i t shaped s j h k (live-at (t .files) (shaped .files-many) k l v)))
 
   pub mkdir-follows : (d : ℕ) (p : List ℕ) → picked (checks t i (mkdir d p)) ≡ None → tree-of (tables-after t (mkdir d p)) (writes (sector-writes t (mkdir d p) (tables-after t (mkdir d p))) i .image) ≡ change (tree-of t i) (mkdir d p)
   mkdir-follows d p acc =
@@ -83,8 +83,8 @@ module _ (i : Image) (t : Tables) (shaped : Shaped t) (s : Sound i t) where
         ∙ sym (gone-so (same-path gone-path) (live (getD (t .files) k no-entry)) (item-path (t .dirs) (getD (t .files) k no-entry)) (body i (used (getD (t .rows) k []))) (λ v. eq-same-path gone-path (item-path (t .dirs) (getD (t .files) k no-entry)) (ap (λ y. item-path (t .dirs) (getD (t .files) y no-entry)) (sym z))))
     slot k l (inr z) =
         ap (λ e. file-item (t .dirs) j e (getD (t .rows) k [])) (getD-set-other (t .files) x k (first-bytes (getD (t .files) x no-entry)) no-entry z)
-        ∙ it-same (live (getD (t .files) k no-entry)) (item-path (t .dirs) (getD (t .files) k no-entry)) (item-path (t .dirs) (getD (t .files) k no-entry)) (body j (used (getD (t .rows) k []))) (body i (used (getD (t .rows) k []))) (λ v. refl) (λ v. body-kept i t shaped s j h k (live-file-at i t shaped s k l v))
-        ∙ sym (gone-not (same-path gone-path) (live (getD (t .files) k no-entry)) (item-path (t .dirs) (getD (t .files) k no-entry)) (body i (used (getD (t .rows) k []))) (λ v. not-same gone-path (item-path (t .dirs) (getD (t .files) k no-entry)) (λ e. z (sym (files-one i t shaped s x k lx (live-file-at i t shaped s k l v) e)))))
+        ∙ it-same (live (getD (t .files) k no-entry)) (item-path (t .dirs) (getD (t .files) k no-entry)) (item-path (t .dirs) (getD (t .files) k no-entry)) (body j (used (getD (t .rows) k []))) (body i (used (getD (t .rows) k []))) (λ v. refl) (λ v. body-kept i t shaped s j h k (live-at (t .files) (shaped .files-many) k l v))
+        ∙ sym (gone-not (same-path gone-path) (live (getD (t .files) k no-entry)) (item-path (t .dirs) (getD (t .files) k no-entry)) (body i (used (getD (t .rows) k []))) (λ v. not-same gone-path (item-path (t .dirs) (getD (t .files) k no-entry)) (λ e. z (sym (files-one i t shaped s x k lx (live-at (t .files) (shaped .files-many) k l v) e)))))
 
     files-unlinked : file-items (t .dirs) j (freed (t .files) x) (t .rows) ≡ without (same-path gone-path) (file-items (t .dirs) i (t .files) (t .rows))
     files-unlinked =

@@ -22,10 +22,10 @@ use Rattle.model.proofs.Store.Writes.{data-kept}
 use Rattle.model.proofs.Naming.Same.{within-same, within-nil, within-deeper, within-up, shift, shift-self, shift-off, shift-push}
 use Rattle.model.proofs.Tables.Chains.{climbs-within}
 use Rattle.model.proofs.Tables.Climbs.{Place, up, Step, climbs-cases, climbs-more, climb-root, climb-up, climb-fuel, same-climb, place-climbs, climb-live}
-use Rattle.model.proofs.Tables.Walks.{found, Fresh, fresh-entry, not-inside}
+use Rattle.model.proofs.Tables.Walks.{live-at, found, Fresh, fresh-entry, not-inside}
 use Rattle.model.proofs.Tables.Ways.{climb-kept, climbs-kept, top-nil}
 use Rattle.model.proofs.Trees.Items.{dir-item, file-item, from-start}
-use Rattle.model.proofs.Trees.Keeps.{carried-not, dirs-one, files-one, kinds-two, live-dir-at, live-file-at, rows-same, body-kept}
+use Rattle.model.proofs.Trees.Keeps.{carried-not, dirs-one, files-one, kinds-two, rows-same, body-kept}
 use Rattle.model.proofs.Trees.Slots.{same-tree, it-same, it-there, carried-it, dirs-map, files-map}
 use Rattle.model.proofs.Calls.Checks.{pass, pass-not}
 
@@ -117,7 +117,7 @@ module _ (i : Image) (t : Tables) (shaped : Shaped t) (s : Sound i t) where
     dir-slot k l (inr z) =
         ap (dir-item after) (getD-set-other (t .dirs) x k e no-entry z)
         ∙ it-same (live (getD (t .dirs) k no-entry)) (item-path after (getD (t .dirs) k no-entry)) (shift from q (item-path (t .dirs) (getD (t .dirs) k no-entry))) [] []
-        (λ v. let m = live-dir-at i t shaped s k l v in path-shift (getD (t .dirs) k no-entry) (s .dirs-proper k m .held) (λ h. z (sym (dirs-one i t shaped s x k lx m (sym (climb-live i t s x lx) ∙ h))))) (λ v. refl)
+        (λ v. let m = live-at (t .dirs) (shaped .dirs-many) k l v in path-shift (getD (t .dirs) k no-entry) (s .dirs-proper k m .held) (λ h. z (sym (dirs-one i t shaped s x k lx m (sym (climb-live i t s x lx) ∙ h))))) (λ v. refl)
         ∙ sym (carried-it from q (live (getD (t .dirs) k no-entry)) (item-path (t .dirs) (getD (t .dirs) k no-entry)) [])
 
     dirs-moved : dir-items after after ≡ moved from q (dir-items (t .dirs) (t .dirs))
@@ -126,8 +126,8 @@ module _ (i : Image) (t : Tables) (shaped : Shaped t) (s : Sound i t) where
     beneath-moved : (j : Image) → ((r : ℕ) → r ≤ 255 → look j r ≡ look i r) → file-items after j (t .files) (t .rows) ≡ moved from q (file-items (t .dirs) i (t .files) (t .rows))
     beneath-moved j h = files-map (t .dirs) after i j (t .files) (t .files) (t .rows) (t .rows) refl (rows-same i t shaped s) (rows-same i t shaped s) (carried from q)
         (λ k l. it-same (live (getD (t .files) k no-entry)) (item-path after (getD (t .files) k no-entry)) (shift from q (item-path (t .dirs) (getD (t .files) k no-entry))) (body j (used (getD (t .rows) k []))) (body i (used (getD (t .rows) k [])))
-        (λ v. let m = live-file-at i t shaped s k l v in path-shift (getD (t .files) k no-entry) (s .files-proper k m .held) (λ z. kinds-two i t shaped s x k lx m (sym (climb-live i t s x lx) ∙ z)))
-        (λ v. body-kept i t shaped s j h k (live-file-at i t shaped s k l v))
+        (λ v. let m = live-at (t .files) (shaped .files-many) k l v in path-shift (getD (t .files) k no-entry) (s .files-proper k m .held) (λ z. kinds-two i t shaped s x k lx m (sym (climb-live i t s x lx) ∙ z)))
+        (λ v. body-kept i t shaped s j h k (live-at (t .files) (shaped .files-many) k l v))
         ∙ sym (carried-it from q (live (getD (t .files) k no-entry)) (item-path (t .dirs) (getD (t .files) k no-entry)) (body i (used (getD (t .rows) k [])))))
 
   -- a file
@@ -154,20 +154,20 @@ module _ (i : Image) (t : Tables) (shaped : Shaped t) (s : Sound i t) where
 
     dirs-still : dir-items (t .dirs) (t .dirs) ≡ moved leaf q (dir-items (t .dirs) (t .dirs))
     dirs-still = dirs-map (t .dirs) (t .dirs) (t .dirs) (t .dirs) refl (carried leaf q)
-        (λ k l. sym (carried-not leaf q (live (getD (t .dirs) k no-entry)) (item-path (t .dirs) (getD (t .dirs) k no-entry)) [] (λ v. let m = live-dir-at i t shaped s k l v in shift-off leaf q (item-path (t .dirs) (getD (t .dirs) k no-entry)) (ap (within leaf) (sym (climb-live i t s k m)) ∙ never 32 k (s .rooted k m)))))
+        (λ k l. sym (carried-not leaf q (live (getD (t .dirs) k no-entry)) (item-path (t .dirs) (getD (t .dirs) k no-entry)) [] (λ v. let m = live-at (t .dirs) (shaped .dirs-many) k l v in shift-off leaf q (item-path (t .dirs) (getD (t .dirs) k no-entry)) (ap (within leaf) (sym (climb-live i t s k m)) ∙ never 32 k (s .rooted k m)))))
 
     slot : (j : Image) → ((r : ℕ) → r ≤ 255 → look j r ≡ look i r) → (k : ℕ) → k < length (t .files) → (k ≡ x) ⊎ (k ≡ x → ⊥) → file-item (t .dirs) j (getD (set (t .files) x e) k no-entry) (getD (t .rows) k []) ≡ carried leaf q (file-item (t .dirs) i (getD (t .files) k no-entry) (getD (t .rows) k []))
     slot j h k l (inl z) =
         let v = ap (λ y. live (getD (t .files) y no-entry)) z ∙ lx .1 in
         ap (λ y. file-item (t .dirs) j y (getD (t .rows) k [])) (ap (λ y. getD (set (t .files) x e) y no-entry) z ∙ getD-set-same (t .files) x e no-entry (subst (λ y. y < length (t .files)) z l))
-        ∙ it-there (live e) (item-path (t .dirs) e) q (body j (used (getD (t .rows) k []))) (body i (used (getD (t .rows) k []))) (f .lives) (f .path) (body-kept i t shaped s j h k (live-file-at i t shaped s k l v))
+        ∙ it-there (live e) (item-path (t .dirs) e) q (body j (used (getD (t .rows) k []))) (body i (used (getD (t .rows) k []))) (f .lives) (f .path) (body-kept i t shaped s j h k (live-at (t .files) (shaped .files-many) k l v))
         ∙ sym (it-there (live (getD (t .files) k no-entry)) (shift leaf q (item-path (t .dirs) (getD (t .files) k no-entry))) q (body i (used (getD (t .rows) k []))) (body i (used (getD (t .rows) k []))) v (ap (λ y. shift leaf q (item-path (t .dirs) (getD (t .files) y no-entry))) z ∙ shift-self leaf q) refl)
         ∙ sym (carried-it leaf q (live (getD (t .files) k no-entry)) (item-path (t .dirs) (getD (t .files) k no-entry)) (body i (used (getD (t .rows) k []))))
     slot j h k l (inr z) =
         ap (λ y. file-item (t .dirs) j y (getD (t .rows) k [])) (getD-set-other (t .files) x k e no-entry z)
-        ∙ it-same (live (getD (t .files) k no-entry)) (item-path (t .dirs) (getD (t .files) k no-entry)) (item-path (t .dirs) (getD (t .files) k no-entry)) (body j (used (getD (t .rows) k []))) (body i (used (getD (t .rows) k []))) (λ v. refl) (λ v. body-kept i t shaped s j h k (live-file-at i t shaped s k l v))
+        ∙ it-same (live (getD (t .files) k no-entry)) (item-path (t .dirs) (getD (t .files) k no-entry)) (item-path (t .dirs) (getD (t .files) k no-entry)) (body j (used (getD (t .rows) k []))) (body i (used (getD (t .rows) k []))) (λ v. refl) (λ v. body-kept i t shaped s j h k (live-at (t .files) (shaped .files-many) k l v))
         ∙ sym (carried-not leaf q (live (getD (t .files) k no-entry)) (item-path (t .dirs) (getD (t .files) k no-entry)) (body i (used (getD (t .rows) k [])))
-        (λ v. let m = live-file-at i t shaped s k l v in
+        (λ v. let m = live-at (t .files) (shaped .files-many) k l v in
         shift-off leaf q (item-path (t .dirs) (getD (t .files) k no-entry))
         (within-deeper leaf (climb (t .dirs) 32 (getD (t .files) k no-entry .parent)) (trimmed (getD (t .files) k no-entry .name)) (λ y. z (sym (files-one i t shaped s x k lx m y)))
         ∙ never 32 (getD (t .files) k no-entry .parent) (place-climbs i t s (getD (t .files) k no-entry .parent) (s .files-proper k m .held)))))

@@ -19,10 +19,10 @@ use Rattle.model.specs.Sound.{Shaped, Live, Sound}
 use Rattle.model.proofs.Store.Writes.{data-kept}
 use Rattle.model.proofs.Naming.Same.{within-deeper, within-up}
 use Rattle.model.proofs.Tables.Climbs.{Place, place-climbs, climb-live}
-use Rattle.model.proofs.Tables.Walks.{found, dir-out}
+use Rattle.model.proofs.Tables.Walks.{live-at, found, dir-out}
 use Rattle.model.proofs.Tables.Ways.{climb-kept, under-within}
 use Rattle.model.proofs.Trees.Items.{dir-item, file-item, from-start}
-use Rattle.model.proofs.Trees.Keeps.{freed-gone, gone-not, gone-so, kinds-two, live-dir-at, live-file-at, rows-same, body-kept}
+use Rattle.model.proofs.Trees.Keeps.{freed-gone, gone-not, gone-so, kinds-two, rows-same, body-kept}
 use Rattle.model.proofs.Trees.Slots.{same-tree, it-same, it-gone, dirs-map, files-map}
 use Rattle.model.proofs.Calls.Checks.{pass-not}
 use Rattle.model.proofs.Calls.Cuts.{dirs-length, dirs-cut, files-length, files-cut}
@@ -57,13 +57,13 @@ module _ (i : Image) (t : Tables) (shaped : Shaped t) (s : Sound i t) where
         e = getD (t .dirs) k no-entry
 
         inside : live e ≡ true → (c : Bool) → under (t .dirs) top 33 k ≡ c → within trunk (item-path (t .dirs) e) ≡ c
-        inside v c q = let z = live-dir-at i t shaped s k l v in ap (within trunk) (sym (climb-live i t s k z)) ∙ sym (out k (inr z)) ∙ q
+        inside v c q = let z = live-at (t .dirs) (shaped .dirs-many) k l v in ap (within trunk) (sym (climb-live i t s k z)) ∙ sym (out k (inr z)) ∙ q
 
         go : (b : Bool) → live e ≡ b → (c : Bool) → under (t .dirs) top 33 k ≡ c → dir-item left (cond (b && c) (first-bytes e) e) ≡ unless-gone (within trunk) (dir-item (t .dirs) e)
         go false v c q = it-gone (live e) (item-path left e) [] v ∙ ap (unless-gone (within trunk)) (sym (it-gone (live e) (item-path (t .dirs) e) [] v))
         go true v true q = it-gone (live (first-bytes e)) (item-path left (first-bytes e)) [] (freed-gone e) ∙ sym (gone-so (within trunk) (live e) (item-path (t .dirs) e) [] (λ w. inside w true q))
         go true v false q =
-            it-same (live e) (item-path left e) (item-path (t .dirs) e) [] [] (λ w. let z = live-dir-at i t shaped s k l w in path-out e (s .dirs-proper k z .held) (kept k z (sym (out k (inr z)) ∙ q) .1)) (λ w. refl)
+            it-same (live e) (item-path left e) (item-path (t .dirs) e) [] [] (λ w. let z = live-at (t .dirs) (shaped .dirs-many) k l w in path-out e (s .dirs-proper k z .held) (kept k z (sym (out k (inr z)) ∙ q) .1)) (λ w. refl)
             ∙ sym (gone-not (within trunk) (live e) (item-path (t .dirs) e) [] (λ w. inside w false q))
 
     file-slot : (j : Image) → ((r : ℕ) → r ≤ 255 → look j r ≡ look i r) → (k : ℕ) → k < length (t .files) → file-item left j (getD (files-less (t .dirs) top (t .files)) k no-entry) (getD (t .rows) k []) ≡ unless-gone (within trunk) (file-item (t .dirs) i (getD (t .files) k no-entry) (getD (t .rows) k []))
@@ -79,18 +79,18 @@ module _ (i : Image) (t : Tables) (shaped : Shaped t) (s : Sound i t) where
         i-b = body i (used (getD (t .rows) k []))
 
         above : live e ≡ true → (c : Bool) → under (t .dirs) top 33 (e .parent) ≡ c → within trunk (climb (t .dirs) 32 (e .parent)) ≡ c
-        above v c q = sym (out (e .parent) (s .files-proper k (live-file-at i t shaped s k l v) .held)) ∙ q
+        above v c q = sym (out (e .parent) (s .files-proper k (live-at (t .files) (shaped .files-many) k l v) .held)) ∙ q
 
         inside : live e ≡ true → (c : Bool) → under (t .dirs) top 33 (e .parent) ≡ c → within trunk (item-path (t .dirs) e) ≡ c
         inside v c q =
-            let z = live-file-at i t shaped s k l v in
+            let z = live-at (t .files) (shaped .files-many) k l v in
             within-deeper trunk (climb (t .dirs) 32 (e .parent)) (trimmed (e .name)) (λ x. kinds-two i t shaped s top k lt z (sym (climb-live i t s top lt) ∙ x)) ∙ above v c q
 
         go : (a : Bool) → live e ≡ a → (c : Bool) → under (t .dirs) top 33 (e .parent) ≡ c → file-item left j (cond (a && c) (first-bytes e) e) (getD (t .rows) k []) ≡ unless-gone (within trunk) (file-item (t .dirs) i e (getD (t .rows) k []))
         go false v c q = it-gone (live e) (item-path left e) b v ∙ ap (unless-gone (within trunk)) (sym (it-gone (live e) (item-path (t .dirs) e) i-b v))
         go true v true q = it-gone (live (first-bytes e)) (item-path left (first-bytes e)) b (freed-gone e) ∙ sym (gone-so (within trunk) (live e) (item-path (t .dirs) e) i-b (λ w. inside w true q))
         go true v false q =
-            it-same (live e) (item-path left e) (item-path (t .dirs) e) b i-b (λ w. path-out e (s .files-proper k (live-file-at i t shaped s k l w) .held) (above w false q)) (λ w. body-kept i t shaped s j h k (live-file-at i t shaped s k l w))
+            it-same (live e) (item-path left e) (item-path (t .dirs) e) b i-b (λ w. path-out e (s .files-proper k (live-at (t .files) (shaped .files-many) k l w) .held) (above w false q)) (λ w. body-kept i t shaped s j h k (live-at (t .files) (shaped .files-many) k l w))
             ∙ sym (gone-not (within trunk) (live e) (item-path (t .dirs) e) i-b (λ w. inside w false q))
 
     dirs-pruned : dir-items left left ≡ without (within trunk) (dir-items (t .dirs) (t .dirs))

@@ -21,8 +21,9 @@ use Rattle.model.proofs.Common.Tests.{no-some}
 use Rattle.model.proofs.Naming.Spelling.{names-push, parent-push}
 use Rattle.model.proofs.Tables.Climbs.{up, Step, climbs-cases, climb-root, climb-up, place-climbs}
 use Rattle.model.proofs.Tables.Places.{used-short, row-length}
+use Rattle.model.proofs.Tables.Walks.{live-at}
 use Rattle.model.proofs.Trees.Items.{length-dir-items, dir-items-at, length-file-items, file-items-at, place-held}
-use Rattle.model.proofs.Trees.Keeps.{dirs-one, files-one, kinds-two, live-dir-at, live-file-at, rows-same}
+use Rattle.model.proofs.Trees.Keeps.{dirs-one, files-one, kinds-two, rows-same}
 use Rattle.model.proofs.Trees.Slots.{it-out}
 use Rattle.model.proofs.Books.{FileItem, Wellformed}
 
@@ -48,7 +49,7 @@ module _ (i : Image) (t : Tables) (w : whole i ≡ true) (shaped : Shaped t) (s 
   dir-out n x e = go (cases-lt n (length (t .dirs)))
     where
       go : (n < length (t .dirs)) ⊎ (length (t .dirs) ≤ n) → Live (t .dirs) n × (x .path ≡ item-path (t .dirs) (getD (t .dirs) n no-entry)) × (x .bytes ≡ [])
-      go (inl l) = let o = it-out (live (getD (t .dirs) n no-entry)) (item-path (t .dirs) (getD (t .dirs) n no-entry)) [] x (sym (dir-items-at (t .dirs) (t .dirs) n l) ∙ e) in (live-dir-at i t shaped s n l (o .0), o .1, o .2)
+      go (inl l) = let o = it-out (live (getD (t .dirs) n no-entry)) (item-path (t .dirs) (getD (t .dirs) n no-entry)) [] x (sym (dir-items-at (t .dirs) (t .dirs) n l) ∙ e) in (live-at (t .dirs) (shaped .dirs-many) n l (o .0), o .1, o .2)
       go (inr l) = let a = length-dir-items (t .dirs) (t .dirs) in let m : length (dir-items (t .dirs) (t .dirs)) ≤ n = omega arith in absurd (no-some x (sym (getD-past (dir-items (t .dirs) (t .dirs)) n None m) ∙ e))
 
   pub file-out : (n : ℕ) (x : Item) → getD (file-items (t .dirs) i (t .files) (t .rows)) n None ≡ Some x → Live (t .files) n × (x .path ≡ item-path (t .dirs) (getD (t .files) n no-entry)) × (x .bytes ≡ body i (used (getD (t .rows) n [])))
@@ -58,7 +59,7 @@ module _ (i : Image) (t : Tables) (w : whole i ≡ true) (shaped : Shaped t) (s 
       same = rows-same i t shaped s
 
       go : (n < length (t .files)) ⊎ (length (t .files) ≤ n) → Live (t .files) n × (x .path ≡ item-path (t .dirs) (getD (t .files) n no-entry)) × (x .bytes ≡ body i (used (getD (t .rows) n [])))
-      go (inl l) = let r : n < length (t .rows) = omega arith in let o = it-out (live (getD (t .files) n no-entry)) (item-path (t .dirs) (getD (t .files) n no-entry)) (body i (used (getD (t .rows) n []))) x (sym (file-items-at (t .dirs) i (t .files) (t .rows) n l r) ∙ e) in (live-file-at i t shaped s n l (o .0), o .1, o .2)
+      go (inl l) = let r : n < length (t .rows) = omega arith in let o = it-out (live (getD (t .files) n no-entry)) (item-path (t .dirs) (getD (t .files) n no-entry)) (body i (used (getD (t .rows) n []))) x (sym (file-items-at (t .dirs) i (t .files) (t .rows) n l r) ∙ e) in (live-at (t .files) (shaped .files-many) n l (o .0), o .1, o .2)
       go (inr l) = let a = length-file-items (t .dirs) i (t .files) (t .rows) same in let m : length (file-items (t .dirs) i (t .files) (t .rows)) ≤ n = omega arith in absurd (no-some x (sym (getD-past (file-items (t .dirs) i (t .files) (t .rows)) n None m) ∙ e))
 
   entry-held : (e : Entry) (x : Item) → x .path ≡ item-path (t .dirs) e → Proper (t .dirs) e → tree-dir (tree-of t i) (parent (x .path)) ≡ true

@@ -20,9 +20,9 @@ use Rattle.model.proofs.Store.Bodies.{data-off, data-body}
 use Rattle.model.proofs.Store.Writes.{look-off, Past, past-off}
 use Rattle.model.proofs.Tables.Free.{given-spare, given-distinct, given-length, row-elsewhere}
 use Rattle.model.proofs.Tables.Places.{used-padded}
-use Rattle.model.proofs.Tables.Walks.{Fresh, fresh-entry}
+use Rattle.model.proofs.Tables.Walks.{live-at, free-at, Fresh, fresh-entry}
 use Rattle.model.proofs.Trees.Items.{file-item, unused-files, from-start}
-use Rattle.model.proofs.Trees.Keeps.{live-file-at, rows-same, free-file}
+use Rattle.model.proofs.Trees.Keeps.{rows-same}
 use Rattle.model.proofs.Trees.Slots.{same-tree, it-same, it-there, files-put}
 use Rattle.model.proofs.Calls.Checks.{pass-not}
 
@@ -47,14 +47,14 @@ module _ (i : Image) (t : Tables) (shaped : Shaped t) (s : Sound i t) where
         let a = length-set (t .files) m e in
         let b = length-set (t .rows) m line in
         let c = rows-same i t shaped s in
-        let n = free-file i t shaped s m free .0 in
+        let n = free-at (t .files) m free .0 in
         let o : m < length (t .rows) = omega arith in
         files-put (t .dirs) (t .dirs) i image (t .files) (set (t .files) m e) (t .rows) (set (t .rows) m line) a c (a ∙ c ∙ sym b) m (Some (record { path = p; bytes = w })) n
         (ap₂ (file-item (t .dirs) image) (getD-set-same (t .files) m e no-entry n) (getD-set-same (t .rows) m line [] o)
         ∙ it-there (live e) (item-path (t .dirs) e) p (body image (used line)) w (f .lives) (f .path) filled)
         (λ k ne l. ap₂ (file-item (t .dirs) image) (getD-set-other (t .files) m k e no-entry ne) (getD-set-other (t .rows) m k line [] ne)
         ∙ it-same (live (getD (t .files) k no-entry)) (item-path (t .dirs) (getD (t .files) k no-entry)) (item-path (t .dirs) (getD (t .files) k no-entry)) (body image (used (getD (t .rows) k []))) (body i (used (getD (t .rows) k []))) (λ v. refl)
-        (λ v. row-elsewhere i t shaped s image (given t w) (given-spare i t shaped s w) elsewhere k (live-file-at i t shaped s k l v)))
+        (λ v. row-elsewhere i t shaped s image (given t w) (given-spare i t shaped s w) elsewhere k (live-at (t .files) (shaped .files-many) k l v)))
 
   pub write-follows : (d : ℕ) (p w : List ℕ) → picked (checks t i (write d p w)) ≡ None → tree-of (tables-after t (write d p w)) (writes (sector-writes t (write d p w) (tables-after t (write d p w))) i .image) ≡ change (tree-of t i) (write d p w)
   write-follows d p w acc =
