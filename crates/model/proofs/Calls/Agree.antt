@@ -1,6 +1,6 @@
 -- Call by call, the first check that refuses is the same in the tables and in their tree.
 use mathlib.Core.Path.{_≡_, refl, sym, ap, ap₂, _∙_}
-use mathlib.Core.Bool.{Bool, true, cond, not, _&&_, _||_}
+use mathlib.Core.Bool.{Bool, true, false, cond, not, _&&_, _||_}
 use mathlib.Core.List.{List, [], _∷_, _++_}
 use Prim.Native.Nat.{ℕ, _-_, _*_, _/_}
 use native.Mathlib.Omega.{arith}
@@ -14,7 +14,7 @@ use Rattle.model.specs.Image.{Image}
 use Rattle.model.specs.Refusals.{entries, inside, lost, misspelt, sectors, size, start, taken, Call, closing, opening, find, mkdir, prune, unlink, read, write, move, next, book, picked}
 use Rattle.model.specs.Names.{names, spelt, Name, Path, within, proper-name, all-names, spelt-or-empty, padded}
 use Rattle.model.specs.Tables.{Tables, no-entry, used}
-use Rattle.model.specs.Tree.{is-some, is-dir as tree-dir, start-path, way, sectors-of}
+use Rattle.model.specs.Tree.{Kind, is-some, is-dir as tree-dir, start-path, way, sectors-of}
 use Rattle.model.specs.Book.{parent, last}
 use Rattle.model.specs.History.{leads as tree-leads, whole as whole-path, below, is-file as tree-file, is-item, bytes-at, item-at, file-bytes, whole-sectors, checks as tree-checks}
 use Rattle.model.specs.Volume.{row, child, either-kind, item-in, holder, item, is-dir, is-file, number-of, named, climb, item-path, body, file-items, tree-of, checks, starts, leads, free-sectors}
@@ -65,29 +65,25 @@ module _ (i : Image) (t : Tables) (w : whole i ≡ true) (shaped : Shaped t) (s 
   either-file None (Some b) h = refl
   either-file None None h = refl
 
+  -- what a path leads to, by a test of the tree and by one of the tables
+  lead : (f : Path → Bool) (g : Option (Kind × ℕ) → Bool) → g None ≡ false → (n : Name) (ns : Path) (d : ℕ) → all-names (n ∷ ns) ≡ true → Place (t .dirs) d → ((e : ℕ) → holder t d (n ∷ ns) ≡ Some e → f (climb (t .dirs) 32 d ++ n ∷ ns) ≡ g (either-kind (child (t .dirs) e (last (n ∷ ns))) (child (t .files) e (last (n ∷ ns))))) → (way (tree-of t i) (climb (t .dirs) 32 d) (n ∷ ns) && f (climb (t .dirs) 32 d ++ n ∷ ns)) ≡ g (item t d (n ∷ ns))
+  lead f g z n ns d a p h = ap (λ x. x && f (climb (t .dirs) 32 d ++ n ∷ ns)) (way-walk i t shaped s (n ∷ ns) d a p) ∙ go (holder t d (n ∷ ns)) refl
+    where
+      go : (o : Option ℕ) → holder t d (n ∷ ns) ≡ o → (is-some o && f (climb (t .dirs) 32 d ++ n ∷ ns)) ≡ g (item-in t o (last (n ∷ ns)))
+      go None k = sym z
+      go (Some e) k = h e k
+
   lead-item : (ns : Path) (d : ℕ) → all-names ns ≡ true → Place (t .dirs) d → (way (tree-of t i) (climb (t .dirs) 32 d) ns && is-item (tree-of t i) (climb (t .dirs) 32 d ++ ns)) ≡ is-some (item t d ns)
   lead-item [] d a p = or-left (tree-dir (tree-of t i) (climb (t .dirs) 32 d ++ [])) (tree-file (tree-of t i) (climb (t .dirs) 32 d ++ [])) (start-held d p)
-  lead-item (n ∷ ns) d a p = ap (λ x. x && is-item (tree-of t i) (climb (t .dirs) 32 d ++ n ∷ ns)) (way-walk i t shaped s (n ∷ ns) d a p) ∙ go (holder t d (n ∷ ns)) refl
-    where
-      go : (o : Option ℕ) → holder t d (n ∷ ns) ≡ o → (is-some o && is-item (tree-of t i) (climb (t .dirs) 32 d ++ n ∷ ns)) ≡ is-some (item-in t o (last (n ∷ ns)))
-      go None k = refl
-      go (Some e) k = ap₂ _||_ (dir-there n ns d e a p k) (file-there n ns d e a p k) ∙ either-some (child (t .dirs) e (last (n ∷ ns))) (child (t .files) e (last (n ∷ ns)))
+  lead-item (n ∷ ns) d a p = lead (is-item (tree-of t i)) is-some refl n ns d a p (λ e k. ap₂ _||_ (dir-there n ns d e a p k) (file-there n ns d e a p k) ∙ either-some (child (t .dirs) e (last (n ∷ ns))) (child (t .files) e (last (n ∷ ns))))
 
   lead-dir : (ns : Path) (d : ℕ) → all-names ns ≡ true → Place (t .dirs) d → (way (tree-of t i) (climb (t .dirs) 32 d) ns && tree-dir (tree-of t i) (climb (t .dirs) 32 d ++ ns)) ≡ is-dir (item t d ns)
   lead-dir [] d a p = start-held d p
-  lead-dir (n ∷ ns) d a p = ap (λ x. x && tree-dir (tree-of t i) (climb (t .dirs) 32 d ++ n ∷ ns)) (way-walk i t shaped s (n ∷ ns) d a p) ∙ go (holder t d (n ∷ ns)) refl
-    where
-      go : (o : Option ℕ) → holder t d (n ∷ ns) ≡ o → (is-some o && tree-dir (tree-of t i) (climb (t .dirs) 32 d ++ n ∷ ns)) ≡ is-dir (item-in t o (last (n ∷ ns)))
-      go None k = refl
-      go (Some e) k = dir-there n ns d e a p k ∙ either-dir (child (t .dirs) e (last (n ∷ ns))) (child (t .files) e (last (n ∷ ns)))
+  lead-dir (n ∷ ns) d a p = lead (tree-dir (tree-of t i)) is-dir refl n ns d a p (λ e k. dir-there n ns d e a p k ∙ either-dir (child (t .dirs) e (last (n ∷ ns))) (child (t .files) e (last (n ∷ ns))))
 
-  pub lead-file : (ns : Path) (d : ℕ) → (ns ≡ [] → ⊥) → all-names ns ≡ true → Place (t .dirs) d → (way (tree-of t i) (climb (t .dirs) 32 d) ns && tree-file (tree-of t i) (climb (t .dirs) 32 d ++ ns)) ≡ is-file (item t d ns)
+  lead-file : (ns : Path) (d : ℕ) → (ns ≡ [] → ⊥) → all-names ns ≡ true → Place (t .dirs) d → (way (tree-of t i) (climb (t .dirs) 32 d) ns && tree-file (tree-of t i) (climb (t .dirs) 32 d ++ ns)) ≡ is-file (item t d ns)
   lead-file [] d z a p = absurd (z refl)
-  lead-file (n ∷ ns) d z a p = ap (λ x. x && tree-file (tree-of t i) (climb (t .dirs) 32 d ++ n ∷ ns)) (way-walk i t shaped s (n ∷ ns) d a p) ∙ go (holder t d (n ∷ ns)) refl
-    where
-      go : (o : Option ℕ) → holder t d (n ∷ ns) ≡ o → (is-some o && tree-file (tree-of t i) (climb (t .dirs) 32 d ++ n ∷ ns)) ≡ is-file (item-in t o (last (n ∷ ns)))
-      go None k = refl
-      go (Some e) k = file-there n ns d e a p k ∙ either-file (child (t .dirs) e (last (n ∷ ns))) (child (t .files) e (last (n ∷ ns))) (λ c f x y. never-both e (last (n ∷ ns)) c f (last-name n ns a) x y)
+  lead-file (n ∷ ns) d z a p = lead (tree-file (tree-of t i)) is-file refl n ns d a p (λ e k. file-there n ns d e a p k ∙ either-file (child (t .dirs) e (last (n ∷ ns))) (child (t .files) e (last (n ∷ ns))) (λ c f x y. never-both e (last (n ∷ ns)) c f (last-name n ns a) x y))
 
   size-of : (ns : Path) (d : ℕ) → (ns ≡ [] → ⊥) → all-names ns ≡ true → Place (t .dirs) d → is-file (item t d ns) ≡ true → length (file-bytes (tree-of t i) (climb (t .dirs) 32 d ++ ns)) ≡ 512 * length (used (row t (number-of (item t d ns))))
   size-of [] d z a p h = absurd (z refl)

@@ -4,6 +4,7 @@ use mathlib.Core.Logic.{_⊎_, inl, inr}
 use mathlib.Core.Bool.{true, false}
 use mathlib.Core.List.{List}
 use Prim.Native.Nat.{ℕ, zero, suc, _<_}
+use native.Mathlib.Omega.{arith}
 use lib.ListN.{length, getD, set}
 use Rattle.std.proofs.shelf.Lists.{getD-set-other, getD-set-same}
 use Rattle.std.proofs.shelf.Tests.{both-ways, cases-eq, ne-eqb}
@@ -13,6 +14,7 @@ use Rattle.model.specs.Volume.{climb}
 use Rattle.model.specs.Sound.{Live, Proper}
 use Rattle.model.proofs.Naming.Same.{within-same, within-up}
 use Rattle.model.proofs.Tables.Climbs.{Place, up, Step, climbs-cases, climbs-root, climbs-more, climbs-zero, climb-up, climb-fuel}
+use Rattle.model.proofs.Tables.Ways.{climbs-kept}
 
 abbrev pub at : List Entry → ℕ → Entry
 at es n = getD es n no-entry
@@ -188,14 +190,15 @@ Rest es less = (d : ℕ) → Live less d → Live es d × (at less d ≡ at es d
 module _ (ds fs ds′ fs′ : List Entry) (s : Treed ds fs) (rest-d : Rest ds ds′) (rest-f : Rest fs fs′)
     (closed-d : (d : ℕ) → Live ds′ d → (at ds d .parent ≡ root) ⊎ Live ds′ (at ds d .parent))
     (closed-f : (f : ℕ) → Live fs′ f → (at fs f .parent ≡ root) ⊎ Live ds′ (at fs f .parent)) where
-  still-climbs : (k d : ℕ) → climbs ds k d ≡ true → (d ≡ root) ⊎ Live ds′ d → climbs ds′ k d ≡ true
-  still-climbs zero d h l = h
-  still-climbs (suc k) d h l = go (λ x a b. still-climbs k x a b) (climbs-cases ds k d h) l
+  still-climbs : (k d : ℕ) → climbs ds k d ≡ true → Place ds′ d → climbs ds′ k d ≡ true
+  still-climbs = climbs-kept ds ds′ (Place ds′) kept
     where
-      go : ((x : ℕ) → climbs ds k x ≡ true → (x ≡ root) ⊎ Live ds′ x → climbs ds′ k x ≡ true) → Step ds k d → (d ≡ root) ⊎ Live ds′ d → climbs ds′ (suc k) d ≡ true
-      go ih r (inl q) = climbs-root ds′ (suc k) d q
-      go ih (inl q) (inr l) = climbs-root ds′ (suc k) d q
-      go ih (inr r) (inr l) = climbs-more ds′ k d l (subst (λ x. climbs ds′ k (x .parent) ≡ true) (sym (rest-d d l .1)) (ih (up ds d) (r .2) (closed-d d l)))
+      kept : (k : ℕ) → Live ds k → Place ds′ k → (at ds′ k ≡ at ds k) × Place ds′ (at ds k .parent)
+      kept k l (inl e) = absurd (far k (l .0) e)
+        where
+          far : (k : ℕ) → k < 32 → k ≡ root → ⊥
+          far k l e = omega arith
+      kept k l (inr m) = (rest-d k m .1, closed-d k m)
 
   pub thinned : Treed ds′ fs′
   thinned =

@@ -131,10 +131,11 @@ row-proper i r p =
       rest = rest-zero (length (used r)) r (a .1);
     }
 
-module _ (i : Image) (t : Tables) (shaped : Shaped t) (p : Parts i t) where
+module _ (t : Tables) (shaped : Shaped t) where
   dirs-left : (d : ℕ) → d < 32 → getD (t .dirs ++ t .files) d no-entry ≡ getD (t .dirs) d no-entry
   dirs-left d l = let z = shaped .dirs-many in getD-append-left (t .dirs) (t .files) no-entry d (omega arith)
 
+module _ (i : Image) (t : Tables) (shaped : Shaped t) (p : Parts i t) where
   files-right : (f : ℕ) → getD (t .dirs ++ t .files) (length (t .dirs) + f) no-entry ≡ getD (t .files) f no-entry
   files-right f = getD-append-add (t .dirs) (t .files) f no-entry
 
@@ -151,9 +152,9 @@ module _ (i : Image) (t : Tables) (shaped : Shaped t) (p : Parts i t) where
     dirs-proper = λ d l. proper-from (t .dirs) (getD (t .dirs) d no-entry) (all-holds (proper-entry (t .dirs)) no-entry (t .dirs) (p .dirs) d (let z = shaped .dirs-many in let y = l .0 in omega arith)) (l .1);
     files-proper = λ d l. proper-from (t .dirs) (getD (t .files) d no-entry) (all-holds (proper-entry (t .dirs)) no-entry (t .files) (p .files) d (let z = shaped .files-many in let y = l .0 in omega arith)) (l .1);
     rooted = λ d l. rooted-at (t .dirs) 32 (p .climb) d l;
-    dirs-apart = λ d e l m a b. entries-apart-at (t .dirs ++ t .files) (p .apart) d e (let y = both-long in let u = l .0 in let v = m .0 in let w = shaped .dirs-many in omega arith) (let y = both-long in let u = l .0 in let v = m .0 in let w = shaped .dirs-many in omega arith) (getD (t .dirs) d no-entry) (getD (t .dirs) e no-entry) (dirs-left d (l .0)) (dirs-left e (m .0)) (l .1) (m .1) a b;
+    dirs-apart = λ d e l m a b. entries-apart-at (t .dirs ++ t .files) (p .apart) d e (let y = both-long in let u = l .0 in let v = m .0 in let w = shaped .dirs-many in omega arith) (let y = both-long in let u = l .0 in let v = m .0 in let w = shaped .dirs-many in omega arith) (getD (t .dirs) d no-entry) (getD (t .dirs) e no-entry) (dirs-left t shaped d (l .0)) (dirs-left t shaped e (m .0)) (l .1) (m .1) a b;
     files-apart = λ f g l m a b. let q = entries-apart-at (t .dirs ++ t .files) (p .apart) (length (t .dirs) + f) (length (t .dirs) + g) (let y = both-long in let u = l .0 in let v = m .0 in let w = shaped .dirs-many in omega arith) (let y = both-long in let u = l .0 in let v = m .0 in let w = shaped .dirs-many in omega arith) (getD (t .files) f no-entry) (getD (t .files) g no-entry) (files-right f) (files-right g) (l .1) (m .1) a b in omega arith;
-    kinds-apart = λ d f l m a b. let q = entries-apart-at (t .dirs ++ t .files) (p .apart) d (length (t .dirs) + f) (let y = both-long in let u = l .0 in let v = m .0 in let w = shaped .dirs-many in omega arith) (let y = both-long in let u = l .0 in let v = m .0 in let w = shaped .dirs-many in omega arith) (getD (t .dirs) d no-entry) (getD (t .files) f no-entry) (dirs-left d (l .0)) (files-right f) (l .1) (m .1) a b in let u = l .0 in let w = shaped .dirs-many in omega arith;
+    kinds-apart = λ d f l m a b. let q = entries-apart-at (t .dirs ++ t .files) (p .apart) d (length (t .dirs) + f) (let y = both-long in let u = l .0 in let v = m .0 in let w = shaped .dirs-many in omega arith) (let y = both-long in let u = l .0 in let v = m .0 in let w = shaped .dirs-many in omega arith) (getD (t .dirs) d no-entry) (getD (t .files) f no-entry) (dirs-left t shaped d (l .0)) (files-right f) (l .1) (m .1) a b in let u = l .0 in let w = shaped .dirs-many in omega arith;
     rows-proper = λ f l. row-proper i (row t f) (rows-at i (t .files) (t .rows) (p .rows) f (let z = shaped .files-many in let y = l .0 in omega arith) (let z = shaped .rows-many in let y = l .0 in omega arith) (l .1));
     places-apart = λ f j g k s m n. distinct-apart live (t .files) (t .rows) (sym (ap distinct (live-places-is (t .files) (t .rows))) ∙ p .places) f j g k s (let z = shaped .files-many in let y = m .0 in omega arith, m .1, m .2, m .3) (let z = shaped .files-many in let y = n .0 in omega arith, n .1, n .2, n .3);
   }
@@ -233,9 +234,6 @@ module _ (i : Image) (t : Tables) (shaped : Shaped t) (s : Sound i t) where
       go d true q = up d (live-dir-live (t .dirs) d q)
       go d false q = refl
 
-  in-dirs : (j : ℕ) → j < 32 → getD (t .dirs ++ t .files) j no-entry ≡ getD (t .dirs) j no-entry
-  in-dirs j l = getD-append-left (t .dirs) (t .files) no-entry j (omega (arith, shaped .dirs-many))
-
   in-files : (j : ℕ) → 32 ≤ j → getD (t .dirs ++ t .files) j no-entry ≡ getD (t .files) (j - 32) no-entry
   in-files j l = getD-append-right (t .dirs) (t .files) 32 j no-entry (shaped .dirs-many) l
 
@@ -247,10 +245,10 @@ module _ (i : Image) (t : Tables) (shaped : Shaped t) (s : Sound i t) where
 
       go : (j < 32) ⊎ (32 ≤ j) → (k < 32) ⊎ (32 ≤ k) → ⊥
       go (inl a) (inl b) =
-          let u = both (getD (t .dirs) j no-entry) (getD (t .dirs) k no-entry) (in-dirs j a) (in-dirs k b) in
+          let u = both (getD (t .dirs) j no-entry) (getD (t .dirs) k no-entry) (dirs-left t shaped j a) (dirs-left t shaped k b) in
           let e = s .dirs-apart j k (a, u .0) (b, u .1) (u .2) (u .3) in omega (arith, e)
       go (inl a) (inr b) =
-          let u = both (getD (t .dirs) j no-entry) (getD (t .files) (k - 32) no-entry) (in-dirs j a) (in-files k b) in
+          let u = both (getD (t .dirs) j no-entry) (getD (t .files) (k - 32) no-entry) (dirs-left t shaped j a) (in-files k b) in
           s .kinds-apart j (k - 32) (a, u .0) (omega arith, u .1) (u .2) (u .3)
       go (inr a) (inl b) = omega arith
       go (inr a) (inr b) =
