@@ -16,7 +16,7 @@ use Rattle.model.proofs.Common.Lists.{Pairs}
 use Rattle.model.proofs.Common.Tests.{refute}
 use Rattle.model.proofs.Naming.Orders.{before-irrefl, before-trans, before-tri}
 
-abbrev pub None-after : Name → List Listed → Type 0
+abbrev None-after : Name → List Listed → Type 0
 None-after a xs = (x : Listed) → In x xs → before a (x .name) ≡ false
 
 -- what an answer says
@@ -59,7 +59,7 @@ said a [] = λ x h. absurd h
 said a (x ∷ xs) = said-cons a x xs (before a (x .name)) refl (least-after a xs) (said a xs)
 
 -- one name, one item
-abbrev pub Names-tell : List Listed → Type 0
+abbrev Names-tell : List Listed → Type 0
 Names-tell xs = (x y : Listed) → In x xs → In y xs → x .name ≡ y .name → x ≡ y
 
 pub apart-tell : (xs : List Listed) → Apart xs → Names-tell xs

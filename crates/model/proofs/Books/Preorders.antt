@@ -79,7 +79,7 @@ module _ (g : Listed → Path) (b : Path) (f : Listed → List Listed) where
 
 -- the walk ------------------------------------------------------------------------------------------
 -- an item by its kind, number and name
-abbrev pub Item : Tables → Listed → Type 0
+abbrev Item : Tables → Listed → Type 0
 Item t z = Held t (entry-of t z .parent) z
 
 -- the path of an item
@@ -94,11 +94,11 @@ module _ (i : Image) (t : Tables) (shaped : Shaped t) (s : Sound i t) where
   named : (d : ℕ) (x : Listed) → Held t d x → before [] (x .name) ≡ true
   named d x h = some-name (x .name) (ap proper-name (h .called) ∙ held-proper i t shaped s d x h .named)
 
-  pub from-children : (d : ℕ) (x : Listed) → In x (children-in-order t d) → Held t d x
+  from-children : (d : ℕ) (x : Listed) → In x (children-in-order t d) → Held t d x
   unfolding children-in-order
   from-children d x h = from-listing i t shaped s d x (from-in-order 64 [] (listing t d) x h .0)
 
-  pub to-children : (d : ℕ) (x : Listed) → Held t d x → In x (children-in-order t d)
+  to-children : (d : ℕ) (x : Listed) → Held t d x → In x (children-in-order t d)
   unfolding children-in-order
   to-children d x h = to-in-order 64 [] (listing t d) (apart-tell (listing t d) (listing-apart i t shaped s d)) (few (later [] (listing t d)) (length (listing t d)) (later-long [] (listing t d)) (listing-long i t shaped s d)) x (to-listing i t shaped s d x h) (named d x h)
     where

@@ -24,7 +24,7 @@ use Rattle.model.proofs.Books.Listings.{from-listing, listing-long}
 use Rattle.model.proofs.Books.Preorders.{child-road, dir-road}
 
 -- xs is what comes from o on, before p
-abbrev pub Links : Tables → Option Listed → List Listed → Option Listed → Type 0
+abbrev Links : Tables → Option Listed → List Listed → Option Listed → Type 0
 Links t o [] p = o ≡ p
 Links t o (x ∷ xs) p = (o ≡ Some x) × Links t (successor t x) xs p
 
@@ -39,7 +39,7 @@ links-trail t (x ∷ xs) o h zero l = absurd (let w : ⊥ = omega arith in w)
 links-trail t (x ∷ xs) o h (suc n) l = ap (λ (p : Option Listed). and-on p (λ x. trail t n (successor t x))) (h .0) ∙ ap (λ (ys : List Listed). x ∷ ys) (links-trail t xs (successor t x) (h .1) n (omega arith))
 
 -- what comes after all that d holds
-abbrev pub past : Tables → ℕ → ℕ → Option Listed
+abbrev past : Tables → ℕ → ℕ → Option Listed
 past t n d = cond (eqb d root) None (onward t n (getD (t .dirs) d no-entry .parent) (trimmed (getD (t .dirs) d no-entry .name)))
 
 -- once the root is in reach, more steps change nothing
@@ -115,7 +115,7 @@ climb-short ds (suc n) d = go (eqb d root) (climb-short ds n (getD ds d no-entry
 
 module _ (i : Image) (t : Tables) (shaped : Shaped t) (s : Sound i t) where
   -- one step of `onward`, whatever is left to climb
-  pub onward-step : (d : ℕ) (a : Name) → Place (t .dirs) d → onward t 33 d a ≡ or-else (least-after a (listing t d)) (past t 33 d)
+  onward-step : (d : ℕ) (a : Name) → Place (t .dirs) d → onward t 33 d a ≡ or-else (least-after a (listing t d)) (past t 33 d)
   onward-step d a p = onward-same t 32 d a (place-climbs i t s d p) 33 34 (omega arith) (omega arith)
 
   after : (d : ℕ) (x : Listed) → Held t d x → successor t x ≡ or-else (first-in t (x .kind) (x .number)) (onward t 33 d (x .name))

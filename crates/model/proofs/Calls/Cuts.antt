@@ -36,10 +36,10 @@ first-long : (e : Entry) → length (e .name) ≡ 15 → length (first-bytes e .
 first-long e h = length-set (e .name) 0 0 ∙ h
 
 -- an entry that is freed where b holds
-abbrev pub Cut : Entry → Entry → Bool → Type 0
+abbrev Cut : Entry → Entry → Bool → Type 0
 Cut e e′ b = e′ ≡ cond (live e && b) (first-bytes e) e
 
-pub cut-stays : (e e′ : Entry) (b : Bool) → Cut e e′ b → live e′ ≡ true → (live e ≡ true) × (e′ ≡ e) × (b ≡ false)
+cut-stays : (e e′ : Entry) (b : Bool) → Cut e e′ b → live e′ ≡ true → (live e ≡ true) × (e′ ≡ e) × (b ≡ false)
 cut-stays e e′ b c l = go (live e) refl b refl c
   where
     go : (v : Bool) → live e ≡ v → (w : Bool) → b ≡ w → e′ ≡ cond (v && w) (first-bytes e) e → (live e ≡ true) × (e′ ≡ e) × (b ≡ false)
@@ -50,13 +50,13 @@ cut-stays e e′ b c l = go (live e) refl b refl c
         cond-same : (w : Bool) → cond (false && w) (first-bytes e) e ≡ e
         cond-same w = refl
 
-pub cut-kept : (e e′ : Entry) (b : Bool) → Cut e e′ b → live e ≡ true → b ≡ false → live e′ ≡ true
+cut-kept : (e e′ : Entry) (b : Bool) → Cut e e′ b → live e ≡ true → b ≡ false → live e′ ≡ true
 cut-kept e e′ b c l q = ap live (c ∙ (ap (λ w. cond (live e && w) (first-bytes e) e) q ∙ ap (λ v. cond (v && false) (first-bytes e) e) l)) ∙ l
 
-pub cut-gone : (e e′ : Entry) (b : Bool) → Cut e e′ b → live e ≡ true → b ≡ true → live e′ ≡ false
+cut-gone : (e e′ : Entry) (b : Bool) → Cut e e′ b → live e ≡ true → b ≡ true → live e′ ≡ false
 cut-gone e e′ b c l q = ap live (c ∙ (ap (λ w. cond (live e && w) (first-bytes e) e) q ∙ ap (λ v. cond (v && true) (first-bytes e) e) l)) ∙ freed-gone e
 
-pub cut-why : (e e′ : Entry) (b : Bool) → Cut e e′ b → live e ≡ true → live e′ ≡ false → b ≡ true
+cut-why : (e e′ : Entry) (b : Bool) → Cut e e′ b → live e ≡ true → live e′ ≡ false → b ≡ true
 cut-why e e′ b c l d = go b refl
   where
     go : (w : Bool) → b ≡ w → w ≡ true
@@ -108,7 +108,7 @@ module _ (i : Image) (t : Tables) (shaped : Shaped t) (facts : Sound i t)
       go (inl e) = inl e
       go (inr m) = inr (stays-d (at (t .files) f .parent) m (up-f f (rest-f f l .0) (cut-stays (at (t .files) f) (at fs f) (gf f) (cut-f f) (l .1) .2) m))
 
-  pub less-shaped : Shaped less
+  less-shaped : Shaped less
   less-shaped =
       record {
         marks-long = length-marked out 0 (t .marks) ∙ shaped .marks-long;
@@ -120,7 +120,7 @@ module _ (i : Image) (t : Tables) (shaped : Shaped t) (facts : Sound i t)
         rows-long = shaped .rows-long;
       }
 
-  pub less-sound : Sound i less
+  less-sound : Sound i less
   less-sound =
       sound-from i less less-shaped
       (thinned (t .dirs) (t .files) ds fs tree rest-d rest-f closed-d closed-f)

@@ -142,7 +142,7 @@ module _ (i : Image) (t : Tables) (holds : Holds i t) (m z : List ℕ) (m-long :
   ok : Able i (w₀ ∷ w₁ ∷ w₂ ∷ w₃ ∷ [])
   ok = (alive-from i 0x100 (t .marks) (holds .map-at), m-long, (alive-from i 0x101 (holds .dirs-at .0) (holds .dirs-at .1), z-long, (alive-from i 0x102 (holds .files-at .0) (holds .files-at .1), z-long, (alive-from i 0x103 (holds .rows-at .0) (holds .rows-at .1), z-long, tt))))
 
-  pub new-next : Next i new (w₀ ∷ w₁ ∷ w₂ ∷ w₃ ∷ [])
+  new-next : Next i new (w₀ ∷ w₁ ∷ w₂ ∷ w₃ ∷ [])
   new-next =
       record {
         able = ok;

@@ -43,7 +43,7 @@ module _ (t : Tables) (d : ℕ) (p : List ℕ) (s : spelt p ≡ true) where
   new-long = length-padded (last (names p)) (proper-parts (last (names p)) (last-spelt p s) .1)
 
   module _ (h : ℕ) (holds : holder t d (names p) ≡ Some h) (none : named t d p ≡ None) where
-    pub new-parent : new-entry t d p .parent ≡ h
+    new-parent : new-entry t d p .parent ≡ h
     new-parent = ap or-zero holds
 
     pub alone-dirs : length (t .dirs) ≡ 32 → (c : ℕ) → Live (t .dirs) c → at (t .dirs) c .parent ≡ new-entry t d p .parent → at (t .dirs) c .name ≡ new-entry t d p .name → ⊥
@@ -61,10 +61,10 @@ named-set es n e l q h k b = go (cases-eq k n)
     go (inr m) = ap (λ x. length (x .name)) (getD-set-other es n k e no-entry m) ∙ h k b
 
 -- one directory entry, or one file entry, is set -----------------------------------------------------------
-abbrev pub dirs-set : Tables → ℕ → Entry → Tables
+abbrev dirs-set : Tables → ℕ → Entry → Tables
 dirs-set t n e = record { marks = t .marks; dirs = set (t .dirs) n e; files = t .files; rows = t .rows }
 
-abbrev pub files-set : Tables → ℕ → Entry → Tables
+abbrev files-set : Tables → ℕ → Entry → Tables
 files-set t n e = record { marks = t .marks; dirs = t .dirs; files = set (t .files) n e; rows = t .rows }
 
 module _ (i : Image) (t : Tables) (shaped : Shaped t) (holds : Holds i t) (n : ℕ) (small : n < 32) (e : Entry) (fresh : Named e) (long : length (e .name) ≡ 15) where
@@ -92,7 +92,7 @@ module _ (i : Image) (t : Tables) (shaped : Shaped t) (holds : Holds i t) (n : �
         rows-long = shaped .rows-long;
       }
 
-  pub next-dirs : Treed (set (t .dirs) n e) (t .files) → Rowed i (t .marks) (t .files) (t .rows) → Next i (dirs-set t n e) (dirs-write (dirs-set t n e) ∷ [])
+  next-dirs : Treed (set (t .dirs) n e) (t .files) → Rowed i (t .marks) (t .files) (t .rows) → Next i (dirs-set t n e) (dirs-write (dirs-set t n e) ∷ [])
   next-dirs tree rows =
       record {
         able = ok;
@@ -115,7 +115,7 @@ module _ (i : Image) (t : Tables) (shaped : Shaped t) (holds : Holds i t) (n : �
       ok : Able i (dirs-write (dirs-set t n e) ∷ [])
       ok = (alive-from i 0x101 (holds .dirs-at .0) (holds .dirs-at .1), dirs-512 (dirs-set t n e) dirs-set-shaped, tt)
 
-  pub next-files : Treed (t .dirs) (set (t .files) n e) → Rowed i (t .marks) (set (t .files) n e) (t .rows) → Next i (files-set t n e) (files-write (files-set t n e) ∷ [])
+  next-files : Treed (t .dirs) (set (t .files) n e) → Rowed i (t .marks) (set (t .files) n e) (t .rows) → Next i (files-set t n e) (files-write (files-set t n e) ∷ [])
   next-files tree rows =
       record {
         able = ok;

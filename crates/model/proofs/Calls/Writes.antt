@@ -115,7 +115,7 @@ module _ (i : Image) (t : Tables) (shaped : Shaped t) (holds : Holds i t) (facts
       high : x ≤ 0xff → ⊥
       high b = omega arith
 
-  pub filled-next : Treed (t .dirs) (set (t .files) j e) → Next i (filled t j e ss) (data-writes ss w ++ tail (filled t j e ss))
+  filled-next : Treed (t .dirs) (set (t .files) j e) → Next i (filled t j e ss) (data-writes ss w ++ tail (filled t j e ss))
   filled-next tree =
       record {
         able = all-able;

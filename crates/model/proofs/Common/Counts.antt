@@ -14,11 +14,11 @@ pub count-add : (f g h : ℕ → Bool) (n a : ℕ) → ((s : ℕ) → a ≤ s �
 count-add f g h zero a e = refl
 count-add f g h (suc n) a e = let x = e a (omega arith) (omega arith) in let ih = count-add f g h n (suc a) (λ s l m. e s (omega arith) (omega arith)) in omega arith
 
-pub count-none : (f : ℕ → Bool) (n a : ℕ) → ((s : ℕ) → a ≤ s → s < a + n → f s ≡ false) → count f a n ≡ 0
+count-none : (f : ℕ → Bool) (n a : ℕ) → ((s : ℕ) → a ≤ s → s < a + n → f s ≡ false) → count f a n ≡ 0
 count-none f zero a e = refl
 count-none f (suc n) a e = let ih = count-none f n (suc a) (λ s l m. e s (omega arith) (omega arith)) in rw (e a (omega arith) (omega arith)) (omega arith)
 
-pub count-one : (x n a : ℕ) → a ≤ x → x < a + n → count (λ s. eqb s x) a n ≡ 1
+count-one : (x n a : ℕ) → a ≤ x → x < a + n → count (λ s. eqb s x) a n ≡ 1
 count-one x zero a l m = absurd (let w : ⊥ = omega arith in w)
 count-one x (suc n) a l m = go (eqb a x) refl (count-one x n (suc a))
   where

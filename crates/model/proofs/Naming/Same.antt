@@ -43,7 +43,7 @@ pub within-below : (b p q : Path) → within (b ++ p) (b ++ q) ≡ within p q
 within-below [] p q = refl
 within-below (n ∷ b) p q = rw (same-name-refl n) (within-below b p q)
 
-pub within-self : (p q : Path) → within p (p ++ q) ≡ true
+within-self : (p q : Path) → within p (p ++ q) ≡ true
 within-self [] q = refl
 within-self (n ∷ p) q = and-from (same-name n n) (within p (p ++ q)) (same-name-refl n) (within-self p q)
 
@@ -69,7 +69,7 @@ within-push (n ∷ []) [] m = or-nothing (same-name n m && true)
 within-push (n ∷ x ∷ p) [] m = or-nothing (same-name n m && false)
 within-push (n ∷ p) (x ∷ q) m = ap (λ z. same-name n x && z) (within-push p q m) ∙ spread (same-name n x) (same-path p (q ++ m ∷ [])) (within p q)
 
-pub within-length : (p q : Path) → within p q ≡ true → length p ≤ length q
+within-length : (p q : Path) → within p q ≡ true → length p ≤ length q
 within-length [] q e = omega arith
 within-length (n ∷ p) [] e = absurd (false≢true e)
 within-length (n ∷ p) (m ∷ q) e = let h = within-length p q (and-parts (same-name n m) (within p q) e .1) in omega arith

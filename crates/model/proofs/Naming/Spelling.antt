@@ -12,15 +12,15 @@ use Rattle.model.specs.Tables.{trimmed}
 use Rattle.model.specs.Book.{parent, last}
 
 -- names in entries ---------------------------------------------------------------------------------
-pub trimmed-zeros : (k : ℕ) → trimmed (replicate k 0) ≡ []
+trimmed-zeros : (k : ℕ) → trimmed (replicate k 0) ≡ []
 trimmed-zeros zero = refl
 trimmed-zeros (suc k) = refl
 
-pub proper-not-zero : (b : ℕ) → proper-byte b ≡ true → eqb b 0 ≡ false
+proper-not-zero : (b : ℕ) → proper-byte b ≡ true → eqb b 0 ≡ false
 proper-not-zero zero e = absurd (false≢true e)
 proper-not-zero (suc b) e = eqb·suc-zero b
 
-pub trimmed-append : (n : List ℕ) (zs : List ℕ) → all-proper n ≡ true → trimmed zs ≡ [] → trimmed (n ++ zs) ≡ n
+trimmed-append : (n : List ℕ) (zs : List ℕ) → all-proper n ≡ true → trimmed zs ≡ [] → trimmed (n ++ zs) ≡ n
 trimmed-append [] zs e z = z
 trimmed-append (b ∷ n) zs e z = let h = and-parts (proper-byte b) (all-proper n) e in let g : eqb b 0 ≡ false = proper-not-zero b (h .0) in rw (g, trimmed-append n zs (h .1) z)
 
@@ -65,7 +65,7 @@ onto-some : (b : ℕ) (ns : Path) → onto b ns ≡ [] → ⊥
 onto-some b [] e = let z : _≡_ {A = ℕ} 1 0 = ap length e in omega arith
 onto-some b (n ∷ ns) e = let z : _≡_ {A = ℕ} (suc (length ns)) 0 = ap length e in omega arith
 
-pub cut-some : (bs : List ℕ) → cut bs ≡ [] → ⊥
+cut-some : (bs : List ℕ) → cut bs ≡ [] → ⊥
 cut-some [] e = let z : _≡_ {A = ℕ} 1 0 = ap length e in omega arith
 cut-some (b ∷ bs) e = go (eqb b 0x2f) e
   where

@@ -44,7 +44,7 @@ put-same i s b h =
     let e : look (set i s (bytes b)) s ≡ Ok b = look-inside (set i s (bytes b)) s (subst (λ n. s < n) (sym (length-set i s (bytes b))) l) ∙ ap seen (getD-set-same i s (bytes b) (dead 0 0) l) in
     ap (λ j. look j s) (put-set i s b h) ∙ e
 
-pub put-length : (i : Image) (s : ℕ) (b : List ℕ) → is-ok (look i s) ≡ true → length (put i s b) ≡ length i
+put-length : (i : Image) (s : ℕ) (b : List ℕ) → is-ok (look i s) ≡ true → length (put i s b) ≡ length i
 put-length i s b h = ap length (put-set i s b h) ∙ length-set i s (bytes b)
 
 pub put-other : (i : Image) (s r : ℕ) (b : List ℕ) → (r ≡ s → ⊥) → look (put i s b) r ≡ look i r
@@ -54,14 +54,14 @@ put-other i s r b ne = go (look i s)
     go (Ok old) = ap₂ (λ (m : ℕ) (x : Sector). cond (ltb r m) (seen x) (Err (past-end-at r))) (length-set i s (bytes b)) (getD-set-other i s r (bytes b) (dead 0 0) ne)
     go (Err f) = refl
 
-pub put-alive : (i : Image) (s s′ : ℕ) (b : List ℕ) → is-ok (look i s) ≡ true → is-ok (look (put i s b) s′) ≡ is-ok (look i s′)
+put-alive : (i : Image) (s s′ : ℕ) (b : List ℕ) → is-ok (look i s) ≡ true → is-ok (look (put i s b) s′) ≡ is-ok (look i s′)
 put-alive i s s′ b h = go (cases-eq s′ s)
   where
     go : (s′ ≡ s) ⊎ (s′ ≡ s → ⊥) → is-ok (look (put i s b) s′) ≡ is-ok (look i s′)
     go (inl e) = ap (λ x. is-ok (look (put i s b) x)) e ∙ (ap is-ok (put-same i s b h) ∙ (sym h ∙ ap (λ x. is-ok (look i x)) (sym e)))
     go (inr n) = ap is-ok (put-other i s s′ b n)
 
-pub put-whole : (i : Image) (s : ℕ) (b : List ℕ) → is-ok (look i s) ≡ true → length b ≡ 512 → whole i ≡ true → whole (put i s b) ≡ true
+put-whole : (i : Image) (s : ℕ) (b : List ℕ) → is-ok (look i s) ≡ true → length b ≡ 512 → whole i ≡ true → whole (put i s b) ≡ true
 put-whole i s b h n w =
     let u = and-parts (leb (length i) 65535) (all whole-sector i) w in
     subst (λ j. whole j ≡ true) (sym (put-set i s b h))
@@ -82,13 +82,13 @@ pub record Like (i j : Image) : Type 0 where
   pub kept-whole : whole i ≡ true → whole j ≡ true
   pub same-alive : (s : ℕ) → is-ok (look j s) ≡ is-ok (look i s)
 
-pub like-self : (i : Image) → Like i i
+like-self : (i : Image) → Like i i
 like-self i = record { same-length = refl; kept-whole = λ w. w; same-alive = λ s. refl }
 
-pub like-put : (i : Image) (s : ℕ) (b : List ℕ) → is-ok (look i s) ≡ true → length b ≡ 512 → Like i (put i s b)
+like-put : (i : Image) (s : ℕ) (b : List ℕ) → is-ok (look i s) ≡ true → length b ≡ 512 → Like i (put i s b)
 like-put i s b h n = record { same-length = put-length i s b h; kept-whole = put-whole i s b h n; same-alive = λ s′. put-alive i s s′ b h }
 
-pub like-then : (i j k : Image) → Like i j → Like j k → Like i k
+like-then : (i j k : Image) → Like i j → Like j k → Like i k
 like-then i j k p q = record { same-length = q .same-length ∙ p .same-length; kept-whole = λ w. q .kept-whole (p .kept-whole w); same-alive = λ s. q .same-alive s ∙ p .same-alive s }
 
 abbrev pub Able : Image → List Write → Type 0

@@ -15,15 +15,15 @@ use Rattle.model.proofs.Common.Tests.{refute}
 use Rattle.model.proofs.Tables.Climbs.{up, Step, climbs-cases, climbs-root, climbs-more, climbs-zero, climbs-mono}
 
 -- the directories on the way
-abbrev pub chain : List Entry → ℕ → ℕ → List ℕ
+abbrev chain : List Entry → ℕ → ℕ → List ℕ
 chain ds zero d = []
 chain ds (suc n) d = cond (eqb d root) [] (d ∷ chain ds n (up ds d))
 
-pub chain-root : (ds : List Entry) (n d : ℕ) → d ≡ root → chain ds n d ≡ []
+chain-root : (ds : List Entry) (n d : ℕ) → d ≡ root → chain ds n d ≡ []
 chain-root ds zero d e = refl
 chain-root ds (suc n) d e = ap (λ b. cond b [] (d ∷ chain ds n (up ds d))) (eq-eqb d root e)
 
-pub chain-more : (ds : List Entry) (n d : ℕ) → (d ≡ root → ⊥) → chain ds (suc n) d ≡ d ∷ chain ds n (up ds d)
+chain-more : (ds : List Entry) (n d : ℕ) → (d ≡ root → ⊥) → chain ds (suc n) d ≡ d ∷ chain ds n (up ds d)
 chain-more ds n d e = ap (λ b. cond b [] (d ∷ chain ds n (up ds d))) (ne-eqb d root e)
 
 chain-same : (ds : List Entry) (n m d : ℕ) → climbs ds n d ≡ true → climbs ds m d ≡ true → chain ds n d ≡ chain ds m d

@@ -88,7 +88,7 @@ climb-fuel ds (suc n) (suc m) d p q = go (λ x a b. climb-fuel ds n m x a b) (cl
     go ih (inr r) (inl e) = absurd (r .0 e)
     go ih (inr r) (inr s) = climb-up ds n d (ne-eqb d root (r .0)) ∙ ap (λ p. p ++ trimmed (getD ds d no-entry .name) ∷ []) (ih (up ds d) (r .2) (s .2)) ∙ sym (climb-up ds m d (ne-eqb d root (r .0)))
 
-pub climb-nil : (ds : List Entry) (n d : ℕ) → climbs ds n d ≡ true → climb ds n d ≡ [] → d ≡ root
+climb-nil : (ds : List Entry) (n d : ℕ) → climbs ds n d ≡ true → climb ds n d ≡ [] → d ≡ root
 climb-nil ds zero d e h = eqb-true d root e
 climb-nil ds (suc n) d e h = go (eqb d root) refl
   where

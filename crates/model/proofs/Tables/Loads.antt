@@ -13,7 +13,7 @@ use Rattle.model.specs.Tables.{tables, Entry, Tables, no-entry, entry, entries
 use Rattle.model.specs.Sound.{Shaped, Sound}
 use Rattle.model.proofs.Store.Writes.{Able}
 
-pub rows-back : (n : ℕ) (rs : List (List ℕ)) → length rs ≡ n → ((k : ℕ) → k < n → length (getD rs k []) ≡ 16) → parts n (rows-bytes rs) ≡ rs
+rows-back : (n : ℕ) (rs : List (List ℕ)) → length rs ≡ n → ((k : ℕ) → k < n → length (getD rs k []) ≡ 16) → parts n (rows-bytes rs) ≡ rs
 rows-back zero [] e h = refl
 rows-back zero (r ∷ rs) e h = let z : _≡_ {A = ℕ} 0 1 = omega arith in cc
 rows-back (suc n) [] e h = let z : _≡_ {A = ℕ} 0 1 = omega arith in cc
@@ -22,7 +22,7 @@ rows-back (suc n) (r ∷ rs) e h =
     let ih : parts n (rows-bytes rs) ≡ rs = rows-back n rs (omega arith) (λ k b. h (suc k) (omega arith)) in
     ap₂ _∷_ (take-at r (rows-bytes rs) 16 l) (ap (parts n) (drop-at r (rows-bytes rs) 16 l) ∙ ih)
 
-pub rows-length : (n : ℕ) (rs : List (List ℕ)) → length rs ≡ n → ((k : ℕ) → k < n → length (getD rs k []) ≡ 16) → length (rows-bytes rs) ≡ n * 16
+rows-length : (n : ℕ) (rs : List (List ℕ)) → length rs ≡ n → ((k : ℕ) → k < n → length (getD rs k []) ≡ 16) → length (rows-bytes rs) ≡ n * 16
 rows-length zero [] e h = refl
 rows-length zero (r ∷ rs) e h = let z : _≡_ {A = ℕ} 0 1 = omega arith in omega arith
 rows-length (suc n) [] e h = omega arith
@@ -32,7 +32,7 @@ rows-length (suc n) (r ∷ rs) e h =
     let a = length-append r (rows-bytes rs) in
     omega arith
 
-pub entries-back : (n : ℕ) (es : List Entry) → length es ≡ n → ((k : ℕ) → k < n → length (getD es k no-entry .name) ≡ 15) → map entry (parts n (entries-bytes es)) ≡ es
+entries-back : (n : ℕ) (es : List Entry) → length es ≡ n → ((k : ℕ) → k < n → length (getD es k no-entry .name) ≡ 15) → map entry (parts n (entries-bytes es)) ≡ es
 entries-back zero [] e h = refl
 entries-back zero (r ∷ rs) e h = let z : _≡_ {A = ℕ} 0 1 = omega arith in cc
 entries-back (suc n) [] e h = let z : _≡_ {A = ℕ} 0 1 = omega arith in cc
@@ -42,7 +42,7 @@ entries-back (suc n) (r ∷ rs) e h =
     let ih : map entry (parts n (entries-bytes rs)) ≡ rs = entries-back n rs (omega arith) (λ k b. h (suc k) (omega arith)) in
     ap₂ _∷_ (ap entry (take-at (r .parent ∷ r .name) (entries-bytes rs) 16 l)) (ap (λ x. map entry (parts n x)) (drop-at (r .parent ∷ r .name) (entries-bytes rs) 16 l) ∙ ih)
 
-pub entries-length : (n : ℕ) (es : List Entry) → length es ≡ n → ((k : ℕ) → k < n → length (getD es k no-entry .name) ≡ 15) → length (entries-bytes es) ≡ n * 16
+entries-length : (n : ℕ) (es : List Entry) → length es ≡ n → ((k : ℕ) → k < n → length (getD es k no-entry .name) ≡ 15) → length (entries-bytes es) ≡ n * 16
 entries-length zero [] e h = refl
 entries-length zero (r ∷ rs) e h = let z : _≡_ {A = ℕ} 0 1 = omega arith in omega arith
 entries-length (suc n) [] e h = omega arith

@@ -34,17 +34,17 @@ used-short (s ∷ ss) = go (eqb s 0) (used-short ss)
     go true h = omega arith
     go false h = omega arith
 
-pub used-zeros : (n : ℕ) → used (replicate n 0) ≡ []
+used-zeros : (n : ℕ) → used (replicate n 0) ≡ []
 used-zeros zero = refl
 used-zeros (suc n) = refl
 
 -- places ---------------------------------------------------------------------------------------------
-abbrev pub places : (Entry → Bool) → List Entry → List (List ℕ) → List ℕ
+abbrev places : (Entry → Bool) → List Entry → List (List ℕ) → List ℕ
 places g [] rs = []
 places g (e ∷ es) [] = []
 places g (e ∷ es) (r ∷ rs) = cond (g e) (used r ++ places g es rs) (places g es rs)
 
-abbrev pub Names : (Entry → Bool) → List Entry → List (List ℕ) → ℕ → ℕ → ℕ → Type 0
+abbrev Names : (Entry → Bool) → List Entry → List (List ℕ) → ℕ → ℕ → ℕ → Type 0
 Names g es rs f j s = (f < length es) × (g (getD es f no-entry) ≡ true) × (j < length (used (getD rs f []))) × (getD (getD rs f []) j 0 ≡ s)
 
 pub live-places-is : (es : List Entry) (rs : List (List ℕ)) → live-places es rs ≡ places live es rs
@@ -96,7 +96,7 @@ places-member g (e ∷ es) (r ∷ rs) (suc f) j s n = go (places-member g es rs 
     go m true = member-append s (used r) (places g es rs) ∙ or-right (member s (used r)) (member s (places g es rs)) m
     go m false = m
 
-abbrev pub Apart : (Entry → Bool) → List Entry → List (List ℕ) → Type 0
+abbrev Apart : (Entry → Bool) → List Entry → List (List ℕ) → Type 0
 Apart g es rs = (f j h k s : ℕ) → Names g es rs f j s → Names g es rs h k s → (f ≡ h) × (j ≡ k)
 
 pub distinct-apart : (g : Entry → Bool) (es : List Entry) (rs : List (List ℕ)) → distinct (places g es rs) ≡ true → Apart g es rs

@@ -43,7 +43,7 @@ parts i t s =
     let h = seven (marks-right (alive i) t) (all (proper-entry (t .dirs)) (t .dirs)) (all (proper-entry (t .dirs)) (t .files)) (each 0 32 (λ d. not (live-dir (t .dirs) d) || climbs (t .dirs) 32 d)) (unshared (t .dirs ++ t .files)) (proper-rows (alive i) (t .files) (t .rows)) (distinct (live-places (t .files) (t .rows))) s in
     record { marked = h .0; dirs = h .1; files = h .2; climb = h .3; apart = h .4; rows = h .5; places = h .6 }
 
-pub marks-at : (i : Image) (t : Tables) → marks-right (alive i) t ≡ true → (s : ℕ) → s < 512 → getD (t .marks) s 1 ≡ mark-of (alive i) t s
+marks-at : (i : Image) (t : Tables) → marks-right (alive i) t ≡ true → (s : ℕ) → s < 512 → getD (t .marks) s 1 ≡ mark-of (alive i) t s
 marks-at i t m s l = eqb-true (getD (t .marks) s 1) (mark-of (alive i) t s) (each-holds 512 0 (λ s. eqb (getD (t .marks) s 1) (mark-of (alive i) t s)) m s (omega arith) (omega arith))
 
 pub data-range : (s : ℕ) → data-sector s ≡ true → (11 ≤ s) × (s ≤ 255)
@@ -64,7 +64,7 @@ mark-data i t s e = let r = data-range s e in rw (le-ltb s 11 (r .0), le-ltb 255
 pub live-dir-live : (ds : List Entry) (d : ℕ) → live-dir ds d ≡ true → Live ds d
 live-dir-live ds d e = let a = and-parts (ltb d 32) (live (getD ds d no-entry)) e in (ltb-true d 32 (a .0), a .1)
 
-pub live-live-dir : (ds : List Entry) (d : ℕ) → Live ds d → live-dir ds d ≡ true
+live-live-dir : (ds : List Entry) (d : ℕ) → Live ds d → live-dir ds d ≡ true
 live-live-dir ds d l = and-from (ltb d 32) (live (getD ds d no-entry)) (lt-ltb d 32 (l .0)) (l .1)
 
 pub held-from : (ds : List Entry) (d : ℕ) → (eqb d root || live-dir ds d) ≡ true → (d ≡ root) ⊎ Live ds d
@@ -74,23 +74,23 @@ held-from ds d e = go (eqb d root) refl e
     go true h e = inl (eqb-true d root h)
     go false h e = inr (live-dir-live ds d e)
 
-pub proper-from : (ds : List Entry) (e : Entry) → proper-entry ds e ≡ true → live e ≡ true → Proper ds e
+proper-from : (ds : List Entry) (e : Entry) → proper-entry ds e ≡ true → live e ≡ true → Proper ds e
 proper-from ds e p l =
     let a : (well-named e && (eqb (e .parent) root || live-dir ds (e .parent))) ≡ true = rw l at p in
     let b = and-parts (well-named e) (eqb (e .parent) root || live-dir ds (e .parent)) a in
     let c = and-parts (proper-name (trimmed (e .name))) (same-name (e .name) (padded (trimmed (e .name)))) (b .0) in
     record { named = c .0; filled = same-name-true (e .name) (padded (trimmed (e .name))) (c .1); held = held-from ds (e .parent) (b .1) }
 
-pub unshared-at : (xs : List Entry) → unshared xs ≡ true → (j k : ℕ) → j < k → k < length xs → same-place (getD xs j no-entry) (getD xs k no-entry) ≡ false
+unshared-at : (xs : List Entry) → unshared xs ≡ true → (j k : ℕ) → j < k → k < length xs → same-place (getD xs j no-entry) (getD xs k no-entry) ≡ false
 unshared-at [] u j k l m = absurd (let w : ⊥ = omega arith in w)
 unshared-at (x ∷ xs) u j zero l m = absurd (let w : ⊥ = omega arith in w)
 unshared-at (x ∷ xs) u zero (suc k) l m = not-true (same-place x (getD xs k no-entry)) (all-holds (λ f. not (same-place x f)) no-entry xs (and-parts (all (λ f. not (same-place x f)) xs) (unshared xs) u .0) k (omega arith))
 unshared-at (x ∷ xs) u (suc j) (suc k) l m = unshared-at xs (and-parts (all (λ f. not (same-place x f)) xs) (unshared xs) u .1) j k (omega arith) (omega arith)
 
-pub place-shared : (e f : Entry) → live e ≡ true → live f ≡ true → e .parent ≡ f .parent → e .name ≡ f .name → same-place e f ≡ true
+place-shared : (e f : Entry) → live e ≡ true → live f ≡ true → e .parent ≡ f .parent → e .name ≡ f .name → same-place e f ≡ true
 place-shared e f l m p n = and-from (live e && live f && eqb (e .parent) (f .parent)) (same-name (e .name) (f .name)) (and-from (live e && live f) (eqb (e .parent) (f .parent)) (and-from (live e) (live f) l m) (eq-eqb (e .parent) (f .parent) p)) (eq-same-name (e .name) (f .name) n)
 
-pub entries-apart : (xs : List Entry) → unshared xs ≡ true → (j k : ℕ) → j < length xs → k < length xs → live (getD xs j no-entry) ≡ true → live (getD xs k no-entry) ≡ true → getD xs j no-entry .parent ≡ getD xs k no-entry .parent → getD xs j no-entry .name ≡ getD xs k no-entry .name → j ≡ k
+entries-apart : (xs : List Entry) → unshared xs ≡ true → (j k : ℕ) → j < length xs → k < length xs → live (getD xs j no-entry) ≡ true → live (getD xs k no-entry) ≡ true → getD xs j no-entry .parent ≡ getD xs k no-entry .parent → getD xs j no-entry .name ≡ getD xs k no-entry .name → j ≡ k
 entries-apart xs u j k l m a b p n = go (cases-order j k)
   where
     go : ((j ≡ k) ⊎ ((j < k) ⊎ (k < j))) → j ≡ k
@@ -98,7 +98,7 @@ entries-apart xs u j k l m a b p n = go (cases-order j k)
     go (inr (inl h)) = absurd (both-ways _ (unshared-at xs u j k h m) (place-shared (getD xs j no-entry) (getD xs k no-entry) a b p n))
     go (inr (inr h)) = absurd (both-ways _ (unshared-at xs u k j h l) (place-shared (getD xs k no-entry) (getD xs j no-entry) b a (sym p) (sym n)))
 
-pub entries-apart-at : (xs : List Entry) → unshared xs ≡ true → (j k : ℕ) → j < length xs → k < length xs → (x y : Entry) → getD xs j no-entry ≡ x → getD xs k no-entry ≡ y → live x ≡ true → live y ≡ true → x .parent ≡ y .parent → x .name ≡ y .name → j ≡ k
+entries-apart-at : (xs : List Entry) → unshared xs ≡ true → (j k : ℕ) → j < length xs → k < length xs → (x y : Entry) → getD xs j no-entry ≡ x → getD xs k no-entry ≡ y → live x ≡ true → live y ≡ true → x .parent ≡ y .parent → x .name ≡ y .name → j ≡ k
 entries-apart-at xs u j k l m x y q r a b p n = entries-apart xs u j k l m (ap live q ∙ a) (ap live r ∙ b) (ap (λ e. e .parent) q ∙ p ∙ sym (ap (λ e. e .parent) r)) (ap (λ e. e .name) q ∙ n ∙ sym (ap (λ e. e .name) r))
 
 rooted-at : (ds : List Entry) (n : ℕ) → each 0 32 (λ d. not (live-dir ds d) || climbs ds n d) ≡ true → (d : ℕ) → Live ds d → climbs ds n d ≡ true
@@ -121,7 +121,7 @@ rest-zero n r a j l = go (cases-lt j (length r))
         let q : n + (j - n) ≡ j = omega arith in
         rw q at (sym (getD-drop n r (j - n) 0) ∙ z)
 
-pub row-proper : (i : Image) (r : List ℕ) → proper-row (alive i) r ≡ true → ProperRow i r
+row-proper : (i : Image) (r : List ℕ) → proper-row (alive i) r ≡ true → ProperRow i r
 row-proper i r p =
     let a = and-parts (leb 1 (length (used r)) && all (λ s. data-sector s && is-ok (look i s)) (used r)) (all (λ s. eqb s 0) (drop (length (used r)) r)) p in
     let b = and-parts (leb 1 (length (used r))) (all (λ s. data-sector s && is-ok (look i s)) (used r)) (a .0) in

@@ -52,7 +52,7 @@ child-facts es l d n e p h =
     }
 
 -- the names from the root down to an item
-abbrev pub item-names : Tables → Kind × ℕ → Path
+abbrev item-names : Tables → Kind × ℕ → Path
 item-names t x = elim (x .0) [ directory ↦ climb (t .dirs) 32 (x .1) | file ↦ item-path (t .dirs) (getD (t .files) (x .1) no-entry) ]
 
 pub child-none : (es : List Entry) (d : ℕ) (n : Name) → length es ≡ 32 → child es d n ≡ None → (c : ℕ) → Live es c → getD es c no-entry .parent ≡ d → getD es c no-entry .name ≡ padded n → ⊥
@@ -78,7 +78,7 @@ module _ (i : Image) (t : Tables) (shaped : Shaped t) (s : Sound i t) where
   pub dir-facts : (d : ℕ) (n : Name) (e : ℕ) → proper-name n ≡ true → child (t .dirs) d n ≡ Some e → Live (t .dirs) e × (climb (t .dirs) 32 e ≡ climb (t .dirs) 32 d ++ n ∷ [])
   dir-facts d n e p h = let c = child-facts (t .dirs) (shaped .dirs-many) d n e p h in (c .alive, climb-live i t s e (c .alive) ∙ child-path (t .dirs) d n e c)
 
-  pub file-facts : (d : ℕ) (n : Name) (f : ℕ) → proper-name n ≡ true → child (t .files) d n ≡ Some f → Live (t .files) f × (item-path (t .dirs) (getD (t .files) f no-entry) ≡ climb (t .dirs) 32 d ++ n ∷ [])
+  file-facts : (d : ℕ) (n : Name) (f : ℕ) → proper-name n ≡ true → child (t .files) d n ≡ Some f → Live (t .files) f × (item-path (t .dirs) (getD (t .files) f no-entry) ≡ climb (t .dirs) 32 d ++ n ∷ [])
   file-facts d n e p h = let c = child-facts (t .files) (shaped .files-many) d n e p h in (c .alive, child-path (t .files) d n e c)
 
   pub walk-facts : (ns : Path) (d e : ℕ) → all-names ns ≡ true → Place (t .dirs) d → walk t (Some d) ns ≡ Some e → Place (t .dirs) e × (climb (t .dirs) 32 e ≡ climb (t .dirs) 32 d ++ ns)

@@ -19,7 +19,7 @@ use Rattle.model.proofs.Common.Counts.{count-add, count-member}
 use Rattle.model.proofs.Tables.Places.{member-named, row-length}
 use Rattle.model.proofs.Tables.Rules.{data-range, data-from, distinct-ok}
 
-pub sectors-used : (ds : List Entry) (i : Image) (es : List Entry) (rs : List (List ℕ)) → whole i ≡ true → length es ≡ length rs → ((f : ℕ) → f < length es → live (getD es f no-entry) ≡ true → ProperRow i (getD rs f [])) → sectors-of (file-items ds i es rs) ≡ length (live-places es rs)
+sectors-used : (ds : List Entry) (i : Image) (es : List Entry) (rs : List (List ℕ)) → whole i ≡ true → length es ≡ length rs → ((f : ℕ) → f < length es → live (getD es f no-entry) ≡ true → ProperRow i (getD rs f [])) → sectors-of (file-items ds i es rs) ≡ length (live-places es rs)
 sectors-used ds i [] rs w l h = refl
 sectors-used ds i (e ∷ es) [] w l h = refl
 sectors-used ds i (e ∷ es) (r ∷ rs) w l h = go (live e) refl (sectors-used ds i es rs w (omega arith) (λ f m v. h (suc f) (omega arith) v))
@@ -28,7 +28,7 @@ sectors-used ds i (e ∷ es) (r ∷ rs) w l h = go (live e) refl (sectors-used d
     go true v ih = let a = row-length i r w (h 0 (omega arith) v) in let b = length-append (used r) (live-places es rs) in omega arith
     go false v ih = ih
 
-pub length-free : (ms : List ℕ) (n s : ℕ) → length (free-from ms s n) ≡ count (λ s. eqb (getD ms s 1) 0) s n
+length-free : (ms : List ℕ) (n s : ℕ) → length (free-from ms s n) ≡ count (λ s. eqb (getD ms s 1) 0) s n
 length-free ms zero s = refl
 length-free ms (suc n) s = go (eqb (getD ms s 1) 0) (length-free ms n (suc s))
   where

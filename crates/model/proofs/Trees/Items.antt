@@ -88,7 +88,7 @@ module _ (i : Image) (t : Tables) (shaped : Shaped t) (s : Sound i t) where
           ap (stands-at (climb (t .dirs) 32 d ++ n ∷ [])) (dir-items-at (t .dirs) (t .dirs) k (omega arith))
           ∙ stands-child d n (getD (t .dirs) k no-entry) (record { path = item-path (t .dirs) (getD (t .dirs) k no-entry); bytes = [] }) p q (λ v. s .dirs-proper k (omega arith, v)) refl
 
-  pub file-number : (d : ℕ) (n : Name) → Place (t .dirs) d → proper-name n ≡ true → number-at (tree-of t i .files) (climb (t .dirs) 32 d ++ n ∷ []) ≡ child (t .files) d n
+  file-number : (d : ℕ) (n : Name) → Place (t .dirs) d → proper-name n ≡ true → number-at (tree-of t i .files) (climb (t .dirs) 32 d ++ n ∷ []) ≡ child (t .files) d n
   file-number d n p q = first-alike (stands-at (climb (t .dirs) 32 d ++ n ∷ [])) (is-child d n) None no-entry (file-items (t .dirs) i (t .files) (t .rows)) (t .files) (length-file-items (t .dirs) i (t .files) (t .rows) (shaped .files-many ∙ sym (shaped .rows-many))) same
     where
       same : (k : ℕ) → k < length (file-items (t .dirs) i (t .files) (t .rows)) → stands-at (climb (t .dirs) 32 d ++ n ∷ []) (getD (file-items (t .dirs) i (t .files) (t .rows)) k None) ≡ is-child d n (getD (t .files) k no-entry)
@@ -159,7 +159,7 @@ module _ (i : Image) (t : Tables) (shaped : Shaped t) (s : Sound i t) where
   file-at n ns d e a p k = ap (number-at (tree-of t i .files)) (sym (holder-path i t shaped s n ns d e a p k)) ∙ file-number e (last (n ∷ ns)) (walk-facts i t shaped s (parent (n ∷ ns)) d e (parent-names (n ∷ ns) a) p k .0) (last-name n ns a)
 
   -- a live directory stands in the tree
-  pub live-held : (d : ℕ) → Live (t .dirs) d → tree-dir (tree-of t i) (climb (t .dirs) 32 d) ≡ true
+  live-held : (d : ℕ) → Live (t .dirs) d → tree-dir (tree-of t i) (climb (t .dirs) 32 d) ≡ true
   live-held d l =
       ap (tree-dir (tree-of t i)) (climb-live i t s d l)
       ∙ push-dir (tree-of t i) (climb (t .dirs) 32 (getD (t .dirs) d no-entry .parent)) (trimmed (getD (t .dirs) d no-entry .name))

@@ -37,7 +37,7 @@ pub carried-not : (p q : Path) (b : Bool) (r : Path) (c : List ℕ) → (b ≡ t
 carried-not p q b r c h = carried-it p q b r c ∙ it-same b (shift p q r) r c c h (λ z. refl)
 
 module _ (i : Image) (t : Tables) (shaped : Shaped t) (s : Sound i t) where
-  pub entry-tells : (e f : Entry) → Proper (t .dirs) e → Proper (t .dirs) f → item-path (t .dirs) e ≡ item-path (t .dirs) f → (e .parent ≡ f .parent) × (e .name ≡ f .name)
+  entry-tells : (e f : Entry) → Proper (t .dirs) e → Proper (t .dirs) f → item-path (t .dirs) e ≡ item-path (t .dirs) f → (e .parent ≡ f .parent) × (e .name ≡ f .name)
   entry-tells e f p q h =
       let z = same-from-push (climb (t .dirs) 32 (e .parent)) (climb (t .dirs) 32 (f .parent)) (trimmed (e .name)) (trimmed (f .name)) h in
       (one-place i t s (e .parent) (f .parent) (p .held) (q .held) (z .0), p .filled ∙ ap padded (z .1) ∙ sym (q .filled))
