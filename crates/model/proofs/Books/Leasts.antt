@@ -92,6 +92,7 @@ least-ends a xs = ((λ e. subst (λ (o : Option Listed). Said a xs o) e (said a 
     go n (Some y) h = absurd (both-ways (before a (y .name)) (n y (h .one-of)) (h .after))
 
 -- in order ------------------------------------------------------------------------------------------
+
 pub from-in-order : (n : ℕ) (a : Name) (xs : List Listed) (y : Listed) → In y (in-order n a xs) → In y xs × (before a (y .name) ≡ true)
 from-in-order zero a xs y h = absurd h
 from-in-order (suc n) a xs y h = go (λ x. from-in-order n (x .name) xs y) (least-after a xs) (said a xs) h

@@ -22,6 +22,7 @@ use Rattle.model.proofs.Books.Leasts.{apart-tell, from-in-order, Rise, in-orde
 use Rattle.model.proofs.Books.Listings.{held-proper, from-listing, to-listing, listing-apart, listing-long}
 
 -- lists of items with what follows each -----------------------------------------------------------
+
 from-each : (f : Listed → List Listed) (xs : List Listed) (z : Listed) → In z (each-with f xs) → (x : Listed) × In x xs × ((z ≡ x) ⊎ In z (f x))
 from-each f [] z h = absurd h
 from-each f (x ∷ xs) z (inl e) = (x, inl refl, inl e)
@@ -78,6 +79,7 @@ module _ (g : Listed → Path) (b : Path) (f : Listed → List Listed) where
       head y (inr k) = over x y (inl refl) k
 
 -- the walk ------------------------------------------------------------------------------------------
+
 -- an item by its kind, number and name
 abbrev Item : Tables → Listed → Type 0
 Item t z = Held t (entry-of t z .parent) z

@@ -71,6 +71,7 @@ cut-long e e′ b c h = go (live e && b) c
     go false r = ap (λ x. length (x .name)) r ∙ h
 
 -- entries are freed where g holds of their numbers ----------------------------------------------------------
+
 module _ (i : Image) (t : Tables) (shaped : Shaped t) (facts : Sound i t)
     (ds fs : List Entry) (gd gf : ℕ → Bool) (out : List ℕ)
     (many-d : length ds ≡ 32) (many-f : length fs ≡ 32)
@@ -129,6 +130,7 @@ module _ (i : Image) (t : Tables) (shaped : Shaped t) (facts : Sound i t)
       (λ f j s n d. out-has f j s n (cut-why (at (t .files) f) (at fs f) (gf f) (cut-f f) (n .1) d)))
 
 -- unlink -------------------------------------------------------------------------------------------------
+
 module _ (i : Image) (t : Tables) (shaped : Shaped t) (holds : Holds i t) (facts : Sound i t) where
   freed-cut : (es : List Entry) (j : ℕ) → Live es j → length es ≡ 32 → (f : ℕ) → Cut (at es f) (at (freed es j) f) (eqb f j)
   freed-cut es j l many f = go (cases-eq f j)
@@ -198,6 +200,8 @@ module _ (i : Image) (t : Tables) (shaped : Shaped t) (holds : Holds i t) (facts
       let x = file-out (named t d p) (c₃ .0) in
       let l = found i t shaped facts d p file (x .0) (c₁ .0) (held-from (t .dirs) d (c₂ .0)) (x .1) .0 in
       subst (λ j. Next i (unlinked t j) (files-write (unlinked t j) ∷ map-write (unlinked t j) ∷ [])) (sym (ap number-of (x .1))) (unlinked-next (x .0) l)
+
+-- prune --------------------------------------------------------------------------------------------
 
 pub dirs-length : (ds : List Entry) (top n : ℕ) (es : List Entry) → length (dirs-less ds top n es) ≡ length es
 dirs-length ds top n [] = refl

@@ -59,6 +59,7 @@ pub record Named (e : Entry) : Type 0 where
   pub is-filled : e .name ≡ padded (trimmed (e .name))
 
 -- an entry put in ------------------------------------------------------------------------------------
+
 module _ (es : List Entry) (n : ℕ) (e : Entry) (in-list : n < length es) (small : n < 32) (fresh : Named e) where
   at-new : at (set es n e) n ≡ e
   at-new = getD-set-same es n e no-entry in-list
@@ -184,6 +185,7 @@ module _ (es : List Entry) (n : ℕ) (e : Entry) (in-list : n < length es) (smal
       proper f (inr a) = subst (Proper ds) (sym (a .2)) (s .files-proper f (a .1))
 
 -- entries taken out -----------------------------------------------------------------------------------
+
 abbrev pub Rest : List Entry → List Entry → Type 0
 Rest es less = (d : ℕ) → Live less d → Live es d × (at less d ≡ at es d)
 

@@ -30,6 +30,7 @@ use Rattle.model.proofs.Calls.Entries.{at, Treed, Avoids, dead-avoids, avoids-
 use Rattle.model.proofs.Calls.Rows.{Rowed, treed-from, rowed-from, sound-from, rowed-same}
 
 -- the new entry -------------------------------------------------------------------------------------------
+
 module _ (t : Tables) (d : ℕ) (p : List ℕ) (s : spelt p ≡ true) where
   pub new-named : Named (new-entry t d p)
   new-named =
@@ -61,6 +62,7 @@ named-set es n e l q h k b = go (cases-eq k n)
     go (inr m) = ap (λ x. length (x .name)) (getD-set-other es n k e no-entry m) ∙ h k b
 
 -- one directory entry, or one file entry, is set -----------------------------------------------------------
+
 abbrev dirs-set : Tables → ℕ → Entry → Tables
 dirs-set t n e = record { marks = t .marks; dirs = set (t .dirs) n e; files = t .files; rows = t .rows }
 
@@ -139,6 +141,7 @@ module _ (i : Image) (t : Tables) (shaped : Shaped t) (holds : Holds i t) (n : �
       ok = (alive-from i 0x102 (holds .files-at .0) (holds .files-at .1), files-512 (files-set t n e) files-set-shaped, tt)
 
 -- mkdir ------------------------------------------------------------------------------------------------
+
 module _ (i : Image) (t : Tables) (shaped : Shaped t) (holds : Holds i t) (facts : Sound i t) where
   tree : Treed (t .dirs) (t .files)
   tree = treed-from i t shaped facts
@@ -182,6 +185,7 @@ module _ (i : Image) (t : Tables) (shaped : Shaped t) (holds : Holds i t) (facts
       (made-next d p (c₁ .0) (held-from (t .dirs) d (c₂ .0)) (n .0) (n .1) (to .0) (to .1) (none-out (named t d p) (c₅ .0)))
 
   -- move ---------------------------------------------------------------------------------------------------
+
   moved-dir : (d : ℕ) (p q : List ℕ) → spelt p ≡ true → spelt q ≡ true → Place (t .dirs) d → (x : ℕ) → named t d p ≡ Some (directory, x) → (h : ℕ) → holder t d (names q) ≡ Some h → named t d q ≡ None → within (names p) (names q) ≡ false → Next i (dirs-set t x (new-entry t d q)) (dirs-write (dirs-set t x (new-entry t d q)) ∷ [])
   moved-dir d p q sp sq held x is h to none out =
       next-dirs i t shaped holds x (l .0) (new-entry t d q) fresh (new-long t d q sq)

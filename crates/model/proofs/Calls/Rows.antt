@@ -33,6 +33,7 @@ pub record Rowed (i : Image) (ms : List ℕ) (fs : List Entry) (rs : List (List 
   pub places-apart : (f j g k s : ℕ) → Site fs rs f j s → Site fs rs g k s → (f ≡ g) × (j ≡ k)
 
 -- from the facts and back ---------------------------------------------------------------------------
+
 module _ (i : Image) (t : Tables) (shaped : Shaped t) where
   pub treed-from : Sound i t → Treed (t .dirs) (t .files)
   treed-from s =
@@ -76,6 +77,7 @@ site-stored : (i : Image) (ms : List ℕ) (fs : List Entry) (rs : List (List ℕ
 site-stored i ms fs rs r f j s n = let u = r .rows-proper f (n .0, n .1) .stored j (n .2) in (subst (λ x. data-sector x ≡ true) (n .3) (u .0), subst (λ x. is-ok (look i x) ≡ true) (n .3) (u .1))
 
 -- the same files are live ----------------------------------------------------------------------------
+
 module _ (i : Image) (ms : List ℕ) (fs fs′ : List Entry) (rs : List (List ℕ)) (same : (f : ℕ) → live (at fs′ f) ≡ live (at fs f)) where
   back : (f j s : ℕ) → Site fs′ rs f j s → Site fs rs f j s
   back f j s n = (n .0, sym (same f) ∙ n .1, n .2, n .3)
@@ -96,6 +98,7 @@ module _ (i : Image) (ms : List ℕ) (fs fs′ : List Entry) (rs : List (List �
       }
 
 -- files taken out ------------------------------------------------------------------------------------
+
 module _ (i : Image) (ms : List ℕ) (fs fs′ : List Entry) (rs : List (List ℕ)) (long : length ms ≡ 512) (r : Rowed i ms fs rs) (rest : Rest fs fs′)
     (out : List ℕ)
     (out-from : (s : ℕ) → member s out ≡ true → (f : ℕ) × (j : ℕ) × Site fs rs f j s × (live (at fs′ f) ≡ false))
@@ -136,6 +139,7 @@ module _ (i : Image) (ms : List ℕ) (fs fs′ : List Entry) (rs : List (List �
       }
 
 -- a new file ------------------------------------------------------------------------------------------
+
 module _ (i : Image) (ms : List ℕ) (fs : List Entry) (rs : List (List ℕ)) (long : length ms ≡ 512) (many : length fs ≡ 32) (rows-many : length rs ≡ 32) (r : Rowed i ms fs rs)
     (n : ℕ) (small : n < 32) (free : live (at fs n) ≡ false) (e : Entry) (lives : live e ≡ true)
     (ss new : List ℕ) (new-used : used new ≡ ss) (new-proper : ProperRow i new) (apart : distinct ss ≡ true)

@@ -39,6 +39,7 @@ zeros (suc n) zero = refl
 zeros (suc n) (suc j) = zeros n j
 
 -- a file of the sectors ss ----------------------------------------------------------------------------------
+
 abbrev row-of : List ℕ → List ℕ
 row-of ss = ss ++ replicate (16 - length ss) 0
 
@@ -131,6 +132,8 @@ module _ (i : Image) (t : Tables) (shaped : Shaped t) (holds : Holds i t) (facts
     where
       u : Tables
       u = filled t j e ss
+
+-- write --------------------------------------------------------------------------------------------
 
 sizes : (w : List ℕ) (k : ℕ) → whole-sectors w ≡ true → length w ≡ 512 * k → (1 ≤ k) × (k ≤ 16) × (k * 512 ≤ length w)
 sizes w k h e =

@@ -26,6 +26,7 @@ split (x ∷ p) (y ∷ q) r s n e =
     ((cc), k .1)
 
 -- a list made from a function ----------------------------------------------------------------------
+
 pub length-from : {A : Type 0} (a n : ℕ) (f : ℕ → A) → length (from-to a n f) ≡ n
 length-from a zero f = refl
 length-from a (suc n) f = ap suc (length-from (suc a) n f)
@@ -40,6 +41,7 @@ map-replicate f zero a = refl
 map-replicate f (suc n) a = ap (λ x. f a ∷ x) (map-replicate f n a)
 
 -- one of a list ------------------------------------------------------------------------------------
+
 pub in-left : {A : Type 0} (a : A) (xs ys : List A) → In a xs → In a (xs ++ ys)
 in-left a [] ys h = absurd h
 in-left a (x ∷ xs) ys (inl e) = inl e

@@ -12,9 +12,13 @@ use Rattle.std.proofs.shelf.Tests.{and-from, and-parts, both-ways, eqb-false, e
 use Rattle.model.specs.Tables.{all, each}
 use Rattle.model.specs.Tree.{is-some}
 
+-- tests --------------------------------------------------------------------------------------------
+
 pub refute : (b : Bool) → (b ≡ true → ⊥) → b ≡ false
 refute true h = absurd (h refl)
 refute false h = refl
+
+-- options ------------------------------------------------------------------------------------------
 
 pub no-some : {A : Type 0} (a : A) → _≡_ {A = Option A} None (Some a) → ⊥
 no-some a e = let z : _≡_ {A = ℕ} 0 1 = cc in omega arith
@@ -41,6 +45,7 @@ implied true y e h = h
 implied false y e h = absurd (false≢true e)
 
 -- tests over a list and over a range --------------------------------------------------------------
+
 pub all-holds : {A : Type 0} (f : A → Bool) (d : A) (xs : List A) → all f xs ≡ true → (k : ℕ) → k < length xs → f (getD xs k d) ≡ true
 all-holds f d [] e k l = absurd (let w : ⊥ = omega arith in w)
 all-holds f d (x ∷ xs) e zero l = and-parts (f x) (all f xs) e .0

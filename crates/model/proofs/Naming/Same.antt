@@ -12,6 +12,7 @@ use Rattle.model.specs.Names.{Name, Path, same-name, same-path, within}
 use Rattle.model.proofs.Common.Tests.{refute}
 
 -- equality of names and paths ---------------------------------------------------------------------
+
 pub same-name-true : (n m : List ℕ) → same-name n m ≡ true → n ≡ m
 same-name-true [] [] e = refl
 same-name-true [] (y ∷ ys) e = absurd (false≢true e)
@@ -39,6 +40,7 @@ pub eq-same-path : (p q : Path) → p ≡ q → same-path p q ≡ true
 eq-same-path p q e = rw e (same-path-refl q)
 
 -- a path within another ----------------------------------------------------------------------------
+
 pub within-below : (b p q : Path) → within (b ++ p) (b ++ q) ≡ within p q
 within-below [] p q = refl
 within-below (n ∷ b) p q = rw (same-name-refl n) (within-below b p q)
@@ -85,6 +87,7 @@ pub within-up : (p q : Path) (m : Name) → within p (q ++ m ∷ []) ≡ false �
 within-up p q m h = refute (within p q) (λ e. let z : true ≡ false = sym (ap (λ b. same-path p (q ++ m ∷ []) || b) e ∙ or-right (same-path p (q ++ m ∷ [])) true refl) ∙ sym (within-push p q m) ∙ h in false≢true (sym z))
 
 -- a path that is carried along ---------------------------------------------------------------------
+
 abbrev pub shift : Path → Path → Path → Path
 shift p q r = cond (within p r) (q ++ drop (length p) r) r
 

@@ -12,6 +12,7 @@ use Rattle.model.specs.Tables.{trimmed}
 use Rattle.model.specs.Book.{parent, last}
 
 -- names in entries ---------------------------------------------------------------------------------
+
 trimmed-zeros : (k : ℕ) → trimmed (replicate k 0) ≡ []
 trimmed-zeros zero = refl
 trimmed-zeros (suc k) = refl
@@ -45,6 +46,7 @@ pub padded-same : (n m : Name) → proper-name n ≡ true → proper-name m ≡ 
 padded-same n m p q e = sym (trimmed-padded n p) ∙ ap trimmed e ∙ trimmed-padded m q
 
 -- paths as bytes ----------------------------------------------------------------------------------
+
 pub spelt-names : (p : List ℕ) → spelt p ≡ true → all-names (names p) ≡ true
 spelt-names [] e = refl
 spelt-names (b ∷ p) e = e
@@ -99,6 +101,7 @@ names-tell (a ∷ p) [] e = absurd (cut-some (a ∷ p) e)
 names-tell (a ∷ p) (b ∷ q) e = sym (join-cut (a ∷ p)) ∙ ap join e ∙ join-cut (b ∷ q)
 
 -- the last name -----------------------------------------------------------------------------------
+
 pub parent-last : (n : Name) (ns : Path) → n ∷ ns ≡ parent (n ∷ ns) ++ last (n ∷ ns) ∷ []
 parent-last n [] = refl
 parent-last n (m ∷ ns) = ap (λ p. n ∷ p) (parent-last m ns)

@@ -17,6 +17,7 @@ use Rattle.model.proofs.Common.Tests.{all-holds}
 use Rattle.model.proofs.Store.Writes.{put-same, put-other, writes-step, Able, Off, look-off, Past, past-off}
 
 -- lengths of bodies -------------------------------------------------------------------------------
+
 sector-length : (x : Sector) → whole-sector x ≡ true → is-ok (seen x) ≡ true → length (bytes-or-blank (seen x)) ≡ 512
 sector-length (bytes b) w o = eqb-true (length b) 512 w
 sector-length (dead p d) w o = absurd (false≢true o)
@@ -40,6 +41,7 @@ body-same i j [] h = refl
 body-same i j (s ∷ ss) h = ap₂ (λ (x y : List ℕ). x ++ y) (ap bytes-or-blank (h 0 (omega arith))) (body-same i j ss (λ k l. h (suc k) (omega arith)))
 
 -- the data that is put -----------------------------------------------------------------------------
+
 pub data-able : (i : Image) (ss w : List ℕ) → ((s : ℕ) → member s ss ≡ true → is-ok (look i s) ≡ true) → length ss * 512 ≤ length w → Able i (data-writes ss w)
 data-able i [] w ok l = tt
 data-able i (s ∷ ss) w ok l = (

@@ -28,6 +28,7 @@ pub not-root : (d : ℕ) → d < 32 → eqb d root ≡ false
 not-root d l = ne-eqb d root (λ e. omega arith)
 
 -- ways up ---------------------------------------------------------------------------------------------
+
 abbrev pub up : List Entry → ℕ → ℕ
 up ds d = getD ds d no-entry .parent
 
@@ -63,6 +64,8 @@ climbs-mono ds (suc n) (suc m) d l h = go (λ x k. climbs-mono ds n m x (below l
     go ih (inl e) = climbs-root ds (suc m) d e
     go ih (inr s) = climbs-more ds m d (s .1) (ih (up ds d) (s .2))
 
+-- the names on the way -----------------------------------------------------------------------------
+
 pub climb-root : (ds : List Entry) (n : ℕ) → climb ds n root ≡ []
 climb-root ds zero = refl
 climb-root ds (suc n) = refl
@@ -77,7 +80,6 @@ climbs-up ds n d h e =
 pub climb-up : (ds : List Entry) (n d : ℕ) → eqb d root ≡ false → climb ds (suc n) d ≡ climb ds n (getD ds d no-entry .parent) ++ trimmed (getD ds d no-entry .name) ∷ []
 climb-up ds n d h = rw h
 
--- ways up -----------------------------------------------------------------------------------------
 pub climb-fuel : (ds : List Entry) (n m d : ℕ) → climbs ds n d ≡ true → climbs ds m d ≡ true → climb ds n d ≡ climb ds m d
 climb-fuel ds zero m d p q = sym (ap (climb ds m) (climbs-zero ds d p) ∙ climb-root ds m)
 climb-fuel ds (suc n) zero d p q = ap (climb ds (suc n)) (climbs-zero ds d q) ∙ climb-root ds (suc n)

@@ -1,4 +1,4 @@
--- The free data sectors, and those that a write is given.
+-- The free data sectors, those that a write is given, and the bodies that stay.
 use mathlib.Core.Path.{_≡_, refl, sym, ap, _∙_}
 use mathlib.Core.Logic.{_⊎_, inl, inr}
 use mathlib.Core.Bool.{Bool, true, false, cond, not, _&&_}
@@ -20,7 +20,11 @@ use Rattle.model.proofs.Store.Bodies.{body-same}
 use Rattle.model.proofs.Tables.Places.{used-at, named-member}
 use Rattle.model.proofs.Tables.Rules.{data-range, data-from}
 
--- free sectors ------------------------------------------------------------------------------------
+pub row-same : (i j : Image) (r : List ℕ) → ProperRow i r → ((s : ℕ) → s ≤ 255 → look j s ≡ look i s) → body j (used r) ≡ body i (used r)
+row-same i j r p h = body-same i j (used r) (λ k l. ap (look j) (used-at r k l) ∙ h (getD r k 0) (data-range (getD r k 0) (p .stored k l .0) .1) ∙ ap (look i) (sym (used-at r k l)))
+
+-- free sectors -------------------------------------------------------------------------------------
+
 abbrev Free : List ℕ → ℕ → ℕ → ℕ → Type 0
 Free ms s n x = (s ≤ x) × (x < s + n) × (getD ms x 1 ≡ 0)
 
@@ -48,6 +52,7 @@ free-distinct ms (suc n) s = go (eqb (getD ms s 1) 0) (free-distinct ms n (suc s
     go false ih = ih
 
 -- the sectors given -------------------------------------------------------------------------------
+
 module _ (i : Image) (t : Tables) (shaped : Shaped t) (s : Sound i t) where
   pub record Spare (x : ℕ) : Type 0 where
     pub least : 11 ≤ x

@@ -39,6 +39,7 @@ used-zeros zero = refl
 used-zeros (suc n) = refl
 
 -- places ---------------------------------------------------------------------------------------------
+
 abbrev places : (Entry → Bool) → List Entry → List (List ℕ) → List ℕ
 places g [] rs = []
 places g (e ∷ es) [] = []
@@ -142,6 +143,7 @@ distinct-places g (e ∷ es) (r ∷ rs) apart = go (distinct-places g es rs (λ 
     go rest false p = rest
 
 -- marks -----------------------------------------------------------------------------------------------
+
 pub length-marked : (ss : List ℕ) (m : ℕ) (ms : List ℕ) → length (marked ss m ms) ≡ length ms
 length-marked [] m ms = refl
 length-marked (s ∷ ss) m ms = length-marked ss m (set ms s m) ∙ length-set ms s m

@@ -12,12 +12,13 @@ use Rattle.std.proofs.shelf.Tests.{and-from, and-parts, both-ways, cases-lt, ca
 use Rattle.model.specs.Image.{Image, look, is-ok}
 use Rattle.model.specs.Names.{same-name, proper-name, padded}
 use Rattle.model.specs.Tables.{sound, all, root, Entry, Tables, each, no-entry, live, trimmed, used, data-sector, live-places, member, distinct, alive, mark-of, marks-right, live-dir, well-named, proper-entry, climbs, same-place, unshared, proper-row, proper-rows}
-use Rattle.model.specs.Volume.{row, body}
+use Rattle.model.specs.Volume.{row}
 use Rattle.model.specs.Sound.{Shaped, Live, Proper, ProperRow, Sound}
 use Rattle.model.proofs.Common.Tests.{refute, implied, all-holds, all-from, each-holds, each-from}
-use Rattle.model.proofs.Store.Bodies.{body-same}
 use Rattle.model.proofs.Naming.Same.{same-name-true, same-name-refl, eq-same-name}
 use Rattle.model.proofs.Tables.Places.{used-at, live-places-is, distinct-apart, distinct-places}
+
+-- the rules from the test --------------------------------------------------------------------------
 
 pub record Parts (i : Image) (t : Tables) : Type 0 where
   pub marked : marks-right (alive i) t ≡ true
@@ -28,8 +29,8 @@ pub record Parts (i : Image) (t : Tables) : Type 0 where
   pub rows : proper-rows (alive i) (t .files) (t .rows) ≡ true
   pub places : distinct (live-places (t .files) (t .rows)) ≡ true
 
-seven : (a b c d e f g : Bool) → (a && (b && c) && d && e && (f && g)) ≡ true → (a ≡ true) × (b ≡ true) × (c ≡ true) × (d ≡ true) × (e ≡ true) × (f ≡ true) × (g ≡ true)
-seven a b c d e f g h =
+seven-parts : (a b c d e f g : Bool) → (a && (b && c) && d && e && (f && g)) ≡ true → (a ≡ true) × (b ≡ true) × (c ≡ true) × (d ≡ true) × (e ≡ true) × (f ≡ true) × (g ≡ true)
+seven-parts a b c d e f g h =
     let p = and-parts (a && (b && c) && d && e) (f && g) h in
     let q = and-parts (a && (b && c) && d) e (p .0) in
     let r = and-parts (a && (b && c)) d (q .0) in
@@ -38,9 +39,13 @@ seven a b c d e f g h =
     let v = and-parts f g (p .1) in
     (s .0, u .0, u .1, r .1, q .1, v .0, v .1)
 
+seven-from : (a b c d e f g : Bool) → a ≡ true → b ≡ true → c ≡ true → d ≡ true → e ≡ true → f ≡ true → g ≡ true → (a && (b && c) && d && e && (f && g)) ≡ true
+seven-from a b c d e f g p q r o u v w =
+    and-from (a && (b && c) && d && e) (f && g) (and-from (a && (b && c) && d) e (and-from (a && (b && c)) d (and-from a (b && c) p (and-from b c q r)) o) u) (and-from f g v w)
+
 pub parts : (i : Image) (t : Tables) → sound i t ≡ true → Parts i t
 parts i t s =
-    let h = seven (marks-right (alive i) t) (all (proper-entry (t .dirs)) (t .dirs)) (all (proper-entry (t .dirs)) (t .files)) (each 0 32 (λ d. not (live-dir (t .dirs) d) || climbs (t .dirs) 32 d)) (unshared (t .dirs ++ t .files)) (proper-rows (alive i) (t .files) (t .rows)) (distinct (live-places (t .files) (t .rows))) s in
+    let h = seven-parts (marks-right (alive i) t) (all (proper-entry (t .dirs)) (t .dirs)) (all (proper-entry (t .dirs)) (t .files)) (each 0 32 (λ d. not (live-dir (t .dirs) d) || climbs (t .dirs) 32 d)) (unshared (t .dirs ++ t .files)) (proper-rows (alive i) (t .files) (t .rows)) (distinct (live-places (t .files) (t .rows))) s in
     record { marked = h .0; dirs = h .1; files = h .2; climb = h .3; apart = h .4; rows = h .5; places = h .6 }
 
 marks-at : (i : Image) (t : Tables) → marks-right (alive i) t ≡ true → (s : ℕ) → s < 512 → getD (t .marks) s 1 ≡ mark-of (alive i) t s
@@ -159,6 +164,8 @@ module _ (i : Image) (t : Tables) (shaped : Shaped t) (p : Parts i t) where
     places-apart = λ f j g k s m n. distinct-apart live (t .files) (t .rows) (sym (ap distinct (live-places-is (t .files) (t .rows))) ∙ p .places) f j g k s (let z = shaped .files-many in let y = m .0 in omega arith, m .1, m .2, m .3) (let z = shaped .files-many in let y = n .0 in omega arith, n .1, n .2, n .3);
   }
 
+-- the test from the rules --------------------------------------------------------------------------
+
 module _ (i : Image) (t : Tables) (s : Sound i t) where
   mark-right : (k : ℕ) → k < 512 → getD (t .marks) k 1 ≡ mark-of (alive i) t k
   mark-right k l = go (ltb k 0x0b) refl (ltb 0xff k) refl (is-ok (look i k)) refl (member k (live-places (t .files) (t .rows))) refl
@@ -265,13 +272,6 @@ module _ (i : Image) (t : Tables) (shaped : Shaped t) (s : Sound i t) where
   distinct-ok = subst (λ x. distinct x ≡ true) (sym (live-places-is (t .files) (t .rows)))
       (distinct-places live (t .files) (t .rows) (λ f j g k x n m. s .places-apart f j g k x (omega (arith, n .0, shaped .files-many), n .1, n .2, n .3) (omega (arith, m .0, shaped .files-many), m .1, m .2, m .3)))
 
-  five : (a b c d e f g : Bool) → a ≡ true → b ≡ true → c ≡ true → d ≡ true → e ≡ true → f ≡ true → g ≡ true → (a && (b && c) && d && e && (f && g)) ≡ true
-  five a b c d e f g p q r o u v w =
-      and-from (a && (b && c) && d && e) (f && g) (and-from (a && (b && c) && d) e (and-from (a && (b && c)) d (and-from a (b && c) p (and-from b c q r)) o) u) (and-from f g v w)
-
   pub all-sound : sound i t ≡ true
-  all-sound = five (marks-right (alive i) t) (all (proper-entry (t .dirs)) (t .dirs)) (all (proper-entry (t .dirs)) (t .files)) (each 0 32 (λ d. not (live-dir (t .dirs) d) || climbs (t .dirs) 32 d)) (unshared (t .dirs ++ t .files)) (proper-rows (alive i) (t .files) (t .rows)) (distinct (live-places (t .files) (t .rows)))
+  all-sound = seven-from (marks-right (alive i) t) (all (proper-entry (t .dirs)) (t .dirs)) (all (proper-entry (t .dirs)) (t .files)) (each 0 32 (λ d. not (live-dir (t .dirs) d) || climbs (t .dirs) 32 d)) (unshared (t .dirs ++ t .files)) (proper-rows (alive i) (t .files) (t .rows)) (distinct (live-places (t .files) (t .rows)))
       (marks-ok i t s) dirs-ok files-ok (rooted-ok 32 (s .rooted)) unshared-ok proper-ok distinct-ok
-
-pub row-same : (i j : Image) (r : List ℕ) → ProperRow i r → ((s : ℕ) → s ≤ 255 → look j s ≡ look i s) → body j (used r) ≡ body i (used r)
-row-same i j r p h = body-same i j (used r) (λ k l. ap (look j) (used-at r k l) ∙ h (getD r k 0) (data-range (getD r k 0) (p .stored k l .0) .1) ∙ ap (look i) (sym (used-at r k l)))

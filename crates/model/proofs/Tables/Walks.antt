@@ -25,6 +25,7 @@ use Rattle.model.proofs.Naming.Spelling.{trimmed-padded, padded-live, spelt-na
 use Rattle.model.proofs.Tables.Climbs.{Place, climb-live}
 
 -- entries and children -----------------------------------------------------------------------------
+
 pub live-at : (es : List Entry) → length es ≡ 32 → (k : ℕ) → k < length es → live (getD es k no-entry) ≡ true → Live es k
 live-at es many k l e = (subst (λ m. k < m) many l, e)
 

@@ -15,7 +15,7 @@ use Rattle.model.specs.Volume.{climb, item-path, body, first-bytes}
 use Rattle.model.specs.Sound.{Shaped, Live, Proper, Sound}
 use Rattle.model.proofs.Naming.Same.{shift}
 use Rattle.model.proofs.Tables.Climbs.{one-place}
-use Rattle.model.proofs.Tables.Rules.{row-same}
+use Rattle.model.proofs.Tables.Free.{row-same}
 use Rattle.model.proofs.Trees.Slots.{it, it-same, carried-it}
 
 pub freed-gone : (e : Entry) → live (first-bytes e) ≡ false

@@ -22,6 +22,7 @@ pub same-tree : (a b c d : Numbered) → a ≡ b → c ≡ d → _≡_ {A = Tree
 same-tree a b c d p q = λ j. record { dirs = p j; files = q j }
 
 -- what an entry stands for ------------------------------------------------------------------------
+
 abbrev pub it : Bool → Path → List ℕ → Option Item
 it b p c = cond b (Some (record { path = p; bytes = c })) None
 
@@ -49,6 +50,7 @@ carried-it p q true r c = go (within p r)
 carried-it p q false r c = refl
 
 -- lists of items ----------------------------------------------------------------------------------
+
 module _ (ds ds′ es es′ : List Entry) (many : length es′ ≡ length es) where
   pub dirs-map : (f : Option Item → Option Item) → ((k : ℕ) → k < length es → dir-item ds′ (getD es′ k no-entry) ≡ f (dir-item ds (getD es k no-entry))) → dir-items ds′ es′ ≡ map f (dir-items ds es)
   dirs-map f h =
