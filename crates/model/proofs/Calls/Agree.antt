@@ -20,7 +20,7 @@ use Rattle.model.specs.History.{leads as tree-leads, whole as whole-path, belo
 use Rattle.model.specs.Volume.{row, child, either-kind, item-in, holder, item, is-dir, is-file, number-of, named, climb, item-path, body, file-items, tree-of, checks, starts, leads, free-sectors}
 use Rattle.model.specs.Sound.{Shaped, Live, Sound}
 use Rattle.model.specs.Law.{whole}
-use Rattle.model.proofs.Common.Tests.{given}
+use Rattle.model.proofs.Common.Tests.{and-given}
 use Rattle.model.proofs.Naming.Same.{within-below}
 use Rattle.model.proofs.Naming.Spelling.{spelt-names, empty-names, spelt-some, parent-names, last-name}
 use Rattle.model.proofs.Tables.Climbs.{Place}
@@ -132,10 +132,10 @@ module _ (i : Image) (t : Tables) (w : whole i ≡ true) (shaped : Shaped t) (s 
   starts-same d = ap not (sym (start-agrees i t shaped s d))
 
   item-given : (d : ℕ) (p : List ℕ) → all-names (names p) ≡ true → starts t d ≡ true → leads t d p ≡ true → is-some (named t d p) ≡ is-item (tree-of t i) (whole-path (tree-of t i) d p)
-  item-given d p a h k = sym (given (tree-leads (tree-of t i) d p) (is-item (tree-of t i) (whole-path (tree-of t i) d p)) (is-some (named t d p)) (sym (leads-same d p a h) ∙ k) (sym (item-same d p a h)))
+  item-given d p a h k = sym (and-given (tree-leads (tree-of t i) d p) (is-item (tree-of t i) (whole-path (tree-of t i) d p)) (is-some (named t d p)) (sym (leads-same d p a h) ∙ k) (sym (item-same d p a h)))
 
   dir-given : (d : ℕ) (p : List ℕ) → all-names (names p) ≡ true → starts t d ≡ true → tree-leads (tree-of t i) d p ≡ true → is-dir (named t d p) ≡ tree-dir (tree-of t i) (whole-path (tree-of t i) d p)
-  dir-given d p a h k = sym (given (tree-leads (tree-of t i) d p) (tree-dir (tree-of t i) (whole-path (tree-of t i) d p)) (is-dir (named t d p)) k (sym (dir-same d p a h)))
+  dir-given d p a h k = sym (and-given (tree-leads (tree-of t i) d p) (tree-dir (tree-of t i) (whole-path (tree-of t i) d p)) (is-dir (named t d p)) k (sym (dir-same d p a h)))
 
   within-same : (d : ℕ) (p q : List ℕ) → starts t d ≡ true → within (names p) (names q) ≡ within (whole-path (tree-of t i) d p) (whole-path (tree-of t i) d q)
   within-same d p q h = sym (ap₂ within (as-whole d p h) (as-whole d q h) ∙ within-below (climb (t .dirs) 32 d) (names p) (names q))

@@ -54,5 +54,5 @@ count-most f (suc n) a = go (f a) (count-most f n (suc a))
     go false h = omega arith
 
 -- distinct numbers below n are at most n
-pub few : (n : ℕ) (xs : List ℕ) → distinct xs ≡ true → ((s : ℕ) → member s xs ≡ true → s < n) → length xs ≤ n
-few n xs d h = subst (λ m. m ≤ n) (count-member xs n 0 d (λ s m. let b = h s m in (omega arith, omega arith))) (count-most (λ s. member s xs) n 0)
+pub few-distinct : (n : ℕ) (xs : List ℕ) → distinct xs ≡ true → ((s : ℕ) → member s xs ≡ true → s < n) → length xs ≤ n
+few-distinct n xs d h = subst (λ m. m ≤ n) (count-member xs n 0 d (λ s m. let b = h s m in (omega arith, omega arith))) (count-most (λ s. member s xs) n 0)

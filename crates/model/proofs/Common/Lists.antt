@@ -13,15 +13,15 @@ push-never-nil [] x e = let z : _≡_ {A = ℕ} 1 0 = ap length e in omega arith
 push-never-nil (y ∷ xs) x e = let z : _≡_ {A = ℕ} (suc (length (xs ++ x ∷ []))) 0 = ap length e in omega arith
 
 -- two joins of equally long fronts
-pub split : {A : Type 0} (p q r s : List A) → length p ≡ length q → p ++ r ≡ q ++ s → (p ≡ q) × (r ≡ s)
-split [] [] r s n e = (refl, e)
-split [] (y ∷ q) r s n e = absurd (omega arith)
-split (x ∷ p) [] r s n e = absurd (omega arith)
-split (x ∷ p) (y ∷ q) r s n e =
+pub same-fronts : {A : Type 0} (p q r s : List A) → length p ≡ length q → p ++ r ≡ q ++ s → (p ≡ q) × (r ≡ s)
+same-fronts [] [] r s n e = (refl, e)
+same-fronts [] (y ∷ q) r s n e = absurd (omega arith)
+same-fronts (x ∷ p) [] r s n e = absurd (omega arith)
+same-fronts (x ∷ p) (y ∷ q) r s n e =
     let t : p ++ r ≡ q ++ s = cc in
     let h : x ≡ y = cc in
     let n′ : length p ≡ length q = omega arith in
-    let k = split p q r s n′ t in
+    let k = same-fronts p q r s n′ t in
     let k0 = k .0 in
     ((cc), k .1)
 

@@ -1,5 +1,6 @@
 -- Tests, options and ranges of numbers.
 use mathlib.Core.Path.{_≡_, refl, sym}
+use mathlib.Core.Logic.{_⊎_, inl, inr}
 use mathlib.Core.Bool.{Bool, true, false, not, _&&_, _||_}
 use mathlib.Core.List.{List, [], _∷_}
 use Prim.Native.Nat.{ℕ, zero, suc, _+_, _≤_, _<_}
@@ -17,6 +18,10 @@ use Rattle.model.specs.Tree.{is-some}
 pub refute : (b : Bool) → (b ≡ true → ⊥) → b ≡ false
 refute true h = absurd (h refl)
 refute false h = refl
+
+pub decide-by : {A : Type 0} (b : Bool) → (b ≡ true → A) → (A → b ≡ true) → A ⊎ (A → ⊥)
+decide-by true f g = inl (f refl)
+decide-by false f g = inr (λ a. false≢true (g a))
 
 -- options ------------------------------------------------------------------------------------------
 
@@ -36,9 +41,9 @@ tests-alike true y f g = sym (f refl)
 tests-alike false true f g = g refl
 tests-alike false false f g = refl
 
-pub given : (x y z : Bool) → x ≡ true → (x && y) ≡ z → y ≡ z
-given true y z e h = h
-given false y z e h = absurd (false≢true e)
+pub and-given : (x y z : Bool) → x ≡ true → (x && y) ≡ z → y ≡ z
+and-given true y z e h = h
+and-given false y z e h = absurd (false≢true e)
 
 pub implied : (x y : Bool) → x ≡ true → (not x || y) ≡ true → y ≡ true
 implied true y e h = h

@@ -10,7 +10,7 @@ use lib.ListN.{length}
 use Rattle.std.proofs.shelf.Tests.{and-from, both-ways, eq-eqb, eqb-true, ne-eqb, not-from-false, or-cases}
 use Rattle.model.specs.Tables.{root, Entry, member, distinct, climbs}
 use Rattle.model.specs.Sound.{Live}
-use Rattle.model.proofs.Common.Counts.{few}
+use Rattle.model.proofs.Common.Counts.{few-distinct}
 use Rattle.model.proofs.Common.Tests.{refute}
 use Rattle.model.proofs.Tables.Climbs.{up, Step, climbs-cases, climbs-root, climbs-more, climbs-zero, climbs-mono}
 
@@ -91,7 +91,7 @@ climbs-exact ds (suc n) d h = go (λ x a. climbs-exact ds n x a) (climbs-cases d
 
 pub climbs-within : (ds : List Entry) (n d m : ℕ) → 32 ≤ m → climbs ds n d ≡ true → climbs ds m d ≡ true
 climbs-within ds n d m l h =
-    let b : length (chain ds n d) ≤ 32 = few 32 (chain ds n d) (chain-distinct ds n d h) (λ s k. chain-member ds n d s h k .3 .0) in
+    let b : length (chain ds n d) ≤ 32 = few-distinct 32 (chain ds n d) (chain-distinct ds n d h) (λ s k. chain-member ds n d s h k .3 .0) in
     climbs-mono ds (length (chain ds n d)) m d (through (length (chain ds n d)) m b l) (climbs-exact ds n d h)
   where
     through : (a m : ℕ) → a ≤ 32 → 32 ≤ m → a ≤ m

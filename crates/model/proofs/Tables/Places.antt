@@ -45,8 +45,8 @@ places g [] rs = []
 places g (e ∷ es) [] = []
 places g (e ∷ es) (r ∷ rs) = cond (g e) (used r ++ places g es rs) (places g es rs)
 
-abbrev Names : (Entry → Bool) → List Entry → List (List ℕ) → ℕ → ℕ → ℕ → Type 0
-Names g es rs f j s = (f < length es) × (g (getD es f no-entry) ≡ true) × (j < length (used (getD rs f []))) × (getD (getD rs f []) j 0 ≡ s)
+abbrev Names-by : (Entry → Bool) → List Entry → List (List ℕ) → ℕ → ℕ → ℕ → Type 0
+Names-by g es rs f j s = (f < length es) × (g (getD es f no-entry) ≡ true) × (j < length (used (getD rs f []))) × (getD (getD rs f []) j 0 ≡ s)
 
 pub live-places-is : (es : List Entry) (rs : List (List ℕ)) → live-places es rs ≡ places live es rs
 live-places-is [] rs = refl
@@ -59,9 +59,9 @@ places-under-is ds top (e ∷ es) [] = refl
 places-under-is ds top (e ∷ es) (r ∷ rs) = ap (λ x. cond (goes ds top e) (used r ++ x) x) (places-under-is ds top es rs)
 
 abbrev Some-place : (Entry → Bool) → List Entry → List (List ℕ) → ℕ → Type 0
-Some-place g es rs s = (f : ℕ) × (j : ℕ) × Names g es rs f j s
+Some-place g es rs s = (f : ℕ) × (j : ℕ) × Names-by g es rs f j s
 
-pub member-places : (g : Entry → Bool) (es : List Entry) (rs : List (List ℕ)) (s : ℕ) → member s (places g es rs) ≡ true → (f : ℕ) × (j : ℕ) × Names g es rs f j s
+pub member-places : (g : Entry → Bool) (es : List Entry) (rs : List (List ℕ)) (s : ℕ) → member s (places g es rs) ≡ true → (f : ℕ) × (j : ℕ) × Names-by g es rs f j s
 member-places g [] rs s h = absurd (false≢true h)
 member-places g (e ∷ es) [] s h = absurd (false≢true h)
 member-places g (e ∷ es) (r ∷ rs) s h = go (λ m. member-places g es rs s m) (g e) refl h
@@ -77,7 +77,7 @@ member-places g (e ∷ es) (r ∷ rs) s h = go (λ m. member-places g es rs s m)
     go ih true p m = here ih p (or-cases (member s (used r)) (member s (places g es rs)) (sym (member-append s (used r) (places g es rs)) ∙ m))
     go ih false p m = later ih m
 
-pub places-member : (g : Entry → Bool) (es : List Entry) (rs : List (List ℕ)) (f j s : ℕ) → Names g es rs f j s → member s (places g es rs) ≡ true
+pub places-member : (g : Entry → Bool) (es : List Entry) (rs : List (List ℕ)) (f j s : ℕ) → Names-by g es rs f j s → member s (places g es rs) ≡ true
 places-member g [] rs f j s n = absurd (omega (arith, n .0))
 places-member g (e ∷ es) [] f j s n = absurd (none f (n .2))
   where
@@ -97,21 +97,21 @@ places-member g (e ∷ es) (r ∷ rs) (suc f) j s n = go (places-member g es rs 
     go m true = member-append s (used r) (places g es rs) ∙ or-right (member s (used r)) (member s (places g es rs)) m
     go m false = m
 
-abbrev Apart : (Entry → Bool) → List Entry → List (List ℕ) → Type 0
-Apart g es rs = (f j h k s : ℕ) → Names g es rs f j s → Names g es rs h k s → (f ≡ h) × (j ≡ k)
+abbrev Places-apart : (Entry → Bool) → List Entry → List (List ℕ) → Type 0
+Places-apart g es rs = (f j h k s : ℕ) → Names-by g es rs f j s → Names-by g es rs h k s → (f ≡ h) × (j ≡ k)
 
-pub distinct-apart : (g : Entry → Bool) (es : List Entry) (rs : List (List ℕ)) → distinct (places g es rs) ≡ true → Apart g es rs
+pub distinct-apart : (g : Entry → Bool) (es : List Entry) (rs : List (List ℕ)) → distinct (places g es rs) ≡ true → Places-apart g es rs
 distinct-apart g [] rs d f j h k s m n = absurd (let l = m .0 in let w : ⊥ = omega arith in w)
 distinct-apart g (e ∷ es) [] d f j h k s m n = absurd (let l = m .2 in let w : ⊥ = omega arith in w)
 distinct-apart g (e ∷ es) (r ∷ rs) d f j h k s m n = go (g e) refl d f h m n (λ q. distinct-apart g es rs q)
   where
-    down : (f j : ℕ) → Names g (e ∷ es) (r ∷ rs) (suc f) j s → Names g es rs f j s
+    down : (f j : ℕ) → Names-by g (e ∷ es) (r ∷ rs) (suc f) j s → Names-by g es rs f j s
     down f j m = (let l = m .0 in omega arith, m .1, m .2, m .3)
 
-    here : (j : ℕ) → Names g (e ∷ es) (r ∷ rs) 0 j s → getD (used r) j 0 ≡ s
+    here : (j : ℕ) → Names-by g (e ∷ es) (r ∷ rs) 0 j s → getD (used r) j 0 ≡ s
     here j m = used-at r j (m .2) ∙ m .3
 
-    go : (b : Bool) → g e ≡ b → distinct (cond b (used r ++ places g es rs) (places g es rs)) ≡ true → (f h : ℕ) → Names g (e ∷ es) (r ∷ rs) f j s → Names g (e ∷ es) (r ∷ rs) h k s → (distinct (places g es rs) ≡ true → Apart g es rs) → (f ≡ h) × (j ≡ k)
+    go : (b : Bool) → g e ≡ b → distinct (cond b (used r ++ places g es rs) (places g es rs)) ≡ true → (f h : ℕ) → Names-by g (e ∷ es) (r ∷ rs) f j s → Names-by g (e ∷ es) (r ∷ rs) h k s → (distinct (places g es rs) ≡ true → Places-apart g es rs) → (f ≡ h) × (j ≡ k)
     go true l d zero zero m n ih = (refl, distinct-at (used r) (distinct-append (used r) (places g es rs) d .0) j k (m .2) (n .2) (here j m ∙ sym (here k n)))
     go true l d zero (suc h) m n ih = absurd (distinct-append (used r) (places g es rs) d .2 s (at-member (used r) j s (m .2) (here j m)) (places-member g es rs h k s (down h k n)))
     go true l d (suc f) zero m n ih = absurd (distinct-append (used r) (places g es rs) d .2 s (at-member (used r) k s (n .2) (here k n)) (places-member g es rs f j s (down f j m)))
@@ -120,15 +120,15 @@ distinct-apart g (e ∷ es) (r ∷ rs) d f j h k s m n = go (g e) refl d f h m n
     go false l d (suc f) zero m n ih = absurd (both-ways (g e) l (n .1))
     go false l d (suc f) (suc h) m n ih = let q = ih d f j h k s (down f j m) (down h k n) in (ap suc (q .0), q .1)
 
-pub distinct-places : (g : Entry → Bool) (es : List Entry) (rs : List (List ℕ)) → Apart g es rs → distinct (places g es rs) ≡ true
+pub distinct-places : (g : Entry → Bool) (es : List Entry) (rs : List (List ℕ)) → Places-apart g es rs → distinct (places g es rs) ≡ true
 distinct-places g [] rs apart = refl
 distinct-places g (e ∷ es) [] apart = refl
 distinct-places g (e ∷ es) (r ∷ rs) apart = go (distinct-places g es rs (λ f j h k s n m. let q = apart (suc f) j (suc h) k s (next f j s n) (next h k s m) in (omega (arith, q .0), q .1))) (g e) refl
   where
-    next : (f j s : ℕ) → Names g es rs f j s → Names g (e ∷ es) (r ∷ rs) (suc f) j s
+    next : (f j s : ℕ) → Names-by g es rs f j s → Names-by g (e ∷ es) (r ∷ rs) (suc f) j s
     next f j s n = (omega (arith, n .0), n .1, n .2, n .3)
 
-    here : g e ≡ true → (j : ℕ) → j < length (used r) → (s : ℕ) → getD (used r) j 0 ≡ s → Names g (e ∷ es) (r ∷ rs) 0 j s
+    here : g e ≡ true → (j : ℕ) → j < length (used r) → (s : ℕ) → getD (used r) j 0 ≡ s → Names-by g (e ∷ es) (r ∷ rs) 0 j s
     here p j l s q = (omega arith, p, l, sym (used-at r j l) ∙ q)
 
     cross : g e ≡ true → (s : ℕ) → member s (used r) ≡ true → member s (places g es rs) ≡ true → ⊥
