@@ -11,7 +11,7 @@ use lib.ListN.{length}
 use Rattle.std.specs.declared.option.Option.the-variants.{None}
 use Rattle.std.proofs.shelf.Lists.{getD-set-other, getD-set-same, length-set}
 use Rattle.std.proofs.shelf.Tests.{and-from, and-parts, and-right, both-ways, cases-eq, eq-eqb, eqb-true, ne-eqb}
-use Rattle.model.specs.Image.{Image, Write}
+use Rattle.model.specs.Image.{Image, is-ok, writes}
 use Rattle.model.specs.Refusals.{lost, misspelt, start, prune, unlink, picked}
 use Rattle.model.specs.Names.{spelt, within}
 use Rattle.model.specs.Tables.{root, Entry, Tables, no-entry, live, trimmed, used, entries-bytes, member}
@@ -19,10 +19,10 @@ use Rattle.model.specs.Tree.{directory, file}
 use Rattle.model.specs.Volume.{row, is-dir, is-file, number-of, named, climb, checks, starts, first-bytes, freed, marked, unlinked, under, dirs-less, goes, files-less, places-under, pruned, tables-after, map-write, dirs-write, files-write, sector-writes}
 use Rattle.model.specs.Sound.{Shaped, Live, Sound}
 use Rattle.model.proofs.Common.Members.{member-at, at-member}
-use Rattle.model.proofs.Store.Writes.{Able, look-off, look-head, look-later}
+use Rattle.model.proofs.Store.Writes.{Able}
 use Rattle.model.proofs.Naming.Same.{within-up}
 use Rattle.model.proofs.Tables.Climbs.{up, climb-live}
-use Rattle.model.proofs.Tables.Loads.{Holds, alive-from, dirs-back, files-back, dirs-512, files-512, Next}
+use Rattle.model.proofs.Tables.Loads.{Holds, holds-after, dirs-back, files-back, dirs-512, files-512, Next}
 use Rattle.model.proofs.Tables.Places.{used-at, places-under-is, member-places, places-member, length-marked}
 use Rattle.model.proofs.Tables.Rules.{held-from}
 use Rattle.model.proofs.Tables.Walks.{found, dir-out, file-out}
@@ -167,30 +167,16 @@ module _ (i : Image) (t : Tables) (shaped : Shaped t) (holds : Holds i t) (facts
       has f k s n e = subst (λ x. member s (used (row t x)) ≡ true) (eqb-true f j e) (at-member (used (row t f)) k s (n .2) (used-at (row t f) k (n .2) ∙ n .3))
 
   unlinked-next : (j : ℕ) → Live (t .files) j → Next i (unlinked t j) (files-write (unlinked t j) ∷ map-write (unlinked t j) ∷ [])
-  unlinked-next j l =
-      record {
-        able = ok;
-        holds = record {
-          map-at = look-later (files-write u) (map-write u ∷ []) i 0x100 (u .marks) ok (λ k a. look-head (map-write u) [] k a tt);
-          dirs-at = (holds .dirs-at .0, look-off ws i 0x101 ((λ q. omega arith), ((λ q. omega arith), tt)) ∙ holds .dirs-at .1, holds .dirs-at .2);
-          files-at = (entries-bytes (u .files), look-head (files-write u) (map-write u ∷ []) i ok ((λ q. omega arith), tt), files-back u (s .0));
-          rows-at = (holds .rows-at .0, look-off ws i 0x103 ((λ q. omega arith), ((λ q. omega arith), tt)) ∙ holds .rows-at .1, holds .rows-at .2);
-        };
-        shaped = s .0;
-        facts = s .1;
-      }
+  unlinked-next j l = record { able = ok; holds = after; shaped = s .0; facts = s .1 }
     where
-      u : Tables
-      u = unlinked t j
-
-      ws : List Write
-      ws = files-write (unlinked t j) ∷ map-write (unlinked t j) ∷ []
-
       s : Shaped (unlinked t j) × Sound i (unlinked t j)
       s = unlinked-sound j l
 
       ok : Able i (files-write (unlinked t j) ∷ map-write (unlinked t j) ∷ [])
-      ok = (alive-from i 0x102 (holds .files-at .0) (holds .files-at .1), files-512 (unlinked t j) (s .0), (alive-from i 0x100 (t .marks) (holds .map-at), s .0 .marks-long, tt))
+      ok = (ap is-ok (holds .files-at .1), files-512 (unlinked t j) (s .0), (ap is-ok (holds .map-at), s .0 .marks-long, tt))
+
+      after : Holds (writes (files-write (unlinked t j) ∷ map-write (unlinked t j) ∷ []) i .image) (unlinked t j)
+      after = holds-after i t (unlinked t j) (files-write (unlinked t j) ∷ map-write (unlinked t j) ∷ []) ok holds (holds .dirs-at .0) (entries-bytes (unlinked t j .files)) (holds .rows-at .0) refl refl (holds .dirs-at .2) refl (files-back (unlinked t j) (s .0)) refl (holds .rows-at .2)
 
   pub unlink-next : (d : ℕ) (p : List ℕ) → picked (checks t i (unlink d p)) ≡ None → Next i (tables-after t (unlink d p)) (sector-writes t (unlink d p) (tables-after t (unlink d p)))
   unlink-next d p h =
@@ -262,27 +248,13 @@ module _ (i : Image) (t : Tables) (shaped : Shaped t) (holds : Holds i t) (facts
   pruned-sound = less-sound i t shaped facts (dirs-less (t .dirs) top 0 (t .dirs)) (files-less (t .dirs) top (t .files)) gd gf (places-under (t .dirs) top (t .files) (t .rows)) many-d many-f cut-here (files-cut (t .dirs) top (t .files)) dirs-up (λ f l h m. h) from has
 
   pruned-next : Next i (pruned t top) (files-write (pruned t top) ∷ dirs-write (pruned t top) ∷ map-write (pruned t top) ∷ [])
-  pruned-next =
-      record {
-        able = ok;
-        holds = record {
-          map-at = look-later (files-write u) (dirs-write u ∷ map-write u ∷ []) i 0x100 (u .marks) ok (λ k a. look-later (dirs-write u) (map-write u ∷ []) k 0x100 (u .marks) a (λ k a. look-head (map-write u) [] k a tt));
-          dirs-at = (entries-bytes (u .dirs), look-later (files-write u) (dirs-write u ∷ map-write u ∷ []) i 0x101 (entries-bytes (u .dirs)) ok (λ k a. look-head (dirs-write u) (map-write u ∷ []) k a ((λ q. omega arith), tt)), dirs-back u pruned-shaped);
-          files-at = (entries-bytes (u .files), look-head (files-write u) (dirs-write u ∷ map-write u ∷ []) i ok ((λ q. omega arith), ((λ q. omega arith), tt)), files-back u pruned-shaped);
-          rows-at = (holds .rows-at .0, look-off ws i 0x103 ((λ q. omega arith), ((λ q. omega arith), ((λ q. omega arith), tt))) ∙ holds .rows-at .1, holds .rows-at .2);
-        };
-        shaped = pruned-shaped;
-        facts = pruned-sound;
-      }
+  pruned-next = record { able = ok; holds = after; shaped = pruned-shaped; facts = pruned-sound }
     where
-      u : Tables
-      u = pruned t top
-
-      ws : List Write
-      ws = files-write (pruned t top) ∷ dirs-write (pruned t top) ∷ map-write (pruned t top) ∷ []
-
       ok : Able i (files-write (pruned t top) ∷ dirs-write (pruned t top) ∷ map-write (pruned t top) ∷ [])
-      ok = (alive-from i 0x102 (holds .files-at .0) (holds .files-at .1), files-512 (pruned t top) pruned-shaped, (alive-from i 0x101 (holds .dirs-at .0) (holds .dirs-at .1), dirs-512 (pruned t top) pruned-shaped, (alive-from i 0x100 (t .marks) (holds .map-at), pruned-shaped .marks-long, tt)))
+      ok = (ap is-ok (holds .files-at .1), files-512 (pruned t top) pruned-shaped, (ap is-ok (holds .dirs-at .1), dirs-512 (pruned t top) pruned-shaped, (ap is-ok (holds .map-at), pruned-shaped .marks-long, tt)))
+
+      after : Holds (writes (files-write (pruned t top) ∷ dirs-write (pruned t top) ∷ map-write (pruned t top) ∷ []) i .image) (pruned t top)
+      after = holds-after i t (pruned t top) (files-write (pruned t top) ∷ dirs-write (pruned t top) ∷ map-write (pruned t top) ∷ []) ok holds (entries-bytes (pruned t top .dirs)) (entries-bytes (pruned t top .files)) (holds .rows-at .0) refl refl (dirs-back (pruned t top) pruned-shaped) refl (files-back (pruned t top) pruned-shaped) refl (holds .rows-at .2)
 
 module _ (i : Image) (t : Tables) (shaped : Shaped t) (holds : Holds i t) (facts : Sound i t) where
   pub prune-next : (d : ℕ) (p : List ℕ) → picked (checks t i (prune d p)) ≡ None → Next i (tables-after t (prune d p)) (sector-writes t (prune d p) (tables-after t (prune d p)))

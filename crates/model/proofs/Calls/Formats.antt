@@ -21,8 +21,8 @@ use Rattle.model.specs.Sound.{Shaped}
 use Rattle.model.specs.Law.{from-to, blank-mark, format-refusal, format-writes}
 use Rattle.model.proofs.Common.Lists.{length-from, getD-from, map-replicate}
 use Rattle.model.proofs.Common.Tests.{no-some}
-use Rattle.model.proofs.Store.Writes.{Able, look-head, look-later}
-use Rattle.model.proofs.Tables.Loads.{Holds, alive-from, Next}
+use Rattle.model.proofs.Store.Writes.{Able}
+use Rattle.model.proofs.Tables.Loads.{Holds, holds-after, Next}
 use Rattle.model.proofs.Tables.Rules.{data-range}
 use Rattle.model.proofs.Calls.Entries.{at, Treed}
 use Rattle.model.proofs.Calls.Rows.{Rowed, sound-from}
@@ -140,21 +140,10 @@ module _ (i : Image) (t : Tables) (holds : Holds i t) (m z : List ℕ) (m-long :
   w₃ = record { at = 0x103; new = z }
 
   ok : Able i (w₀ ∷ w₁ ∷ w₂ ∷ w₃ ∷ [])
-  ok = (alive-from i 0x100 (t .marks) (holds .map-at), m-long, (alive-from i 0x101 (holds .dirs-at .0) (holds .dirs-at .1), z-long, (alive-from i 0x102 (holds .files-at .0) (holds .files-at .1), z-long, (alive-from i 0x103 (holds .rows-at .0) (holds .rows-at .1), z-long, tt))))
+  ok = (ap is-ok (holds .map-at), m-long, (ap is-ok (holds .dirs-at .1), z-long, (ap is-ok (holds .files-at .1), z-long, (ap is-ok (holds .rows-at .1), z-long, tt))))
 
   new-next : Next i new (w₀ ∷ w₁ ∷ w₂ ∷ w₃ ∷ [])
-  new-next =
-      record {
-        able = ok;
-        holds = record {
-          map-at = look-head w₀ (w₁ ∷ w₂ ∷ w₃ ∷ []) i ok ((λ q. omega arith), ((λ q. omega arith), ((λ q. omega arith), tt)));
-          dirs-at = (z, look-later w₀ (w₁ ∷ w₂ ∷ w₃ ∷ []) i 0x101 z ok (λ k a. look-head w₁ (w₂ ∷ w₃ ∷ []) k a ((λ q. omega arith), ((λ q. omega arith), tt))), z-entries);
-          files-at = (z, look-later w₀ (w₁ ∷ w₂ ∷ w₃ ∷ []) i 0x102 z ok (λ k a. look-later w₁ (w₂ ∷ w₃ ∷ []) k 0x102 z a (λ k a. look-head w₂ (w₃ ∷ []) k a ((λ q. omega arith), tt))), z-entries);
-          rows-at = (z, look-later w₀ (w₁ ∷ w₂ ∷ w₃ ∷ []) i 0x103 z ok (λ k a. look-later w₁ (w₂ ∷ w₃ ∷ []) k 0x103 z a (λ k a. look-later w₂ (w₃ ∷ []) k 0x103 z a (λ k a. look-head w₃ [] k a tt))), z-rows);
-        };
-        shaped = new-shaped;
-        facts = sound-from i new new-shaped new-tree new-rows;
-      }
+  new-next = record { able = ok; holds = holds-after i t new (w₀ ∷ w₁ ∷ w₂ ∷ w₃ ∷ []) ok holds z z z refl refl z-entries refl z-entries refl z-rows; shaped = new-shaped; facts = sound-from i new new-shaped new-tree new-rows }
 
   new-bare : (j : Image) → tree-of new j ≡ record { dirs = replicate n None; files = replicate n None }
   new-bare j = λ k. record { dirs = no-dirs (replicate n blank) n k; files = no-files (replicate n blank) j n k }

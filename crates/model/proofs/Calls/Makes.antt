@@ -1,16 +1,15 @@
 -- What mkdir and move leave: one entry is set.
-use mathlib.Core.Path.{_≡_, sym, ap, subst, _∙_}
+use mathlib.Core.Path.{_≡_, refl, sym, ap, subst, _∙_}
 use mathlib.Core.Logic.{_⊎_, inl, inr}
 use mathlib.Core.Bool.{true, false, _&&_}
 use mathlib.Core.List.{List, [], _∷_, _++_}
 use Prim.Native.Nat.{ℕ, _<_}
-use native.Mathlib.Omega.{arith}
 use lib.ListN.{length, set}
 use Rattle.std.specs.declared.option.Option.{Option}
 use Rattle.std.specs.declared.option.Option.the-variants.{Some, None}
 use Rattle.std.proofs.shelf.Lists.{getD-set-other, getD-set-same, length-set}
 use Rattle.std.proofs.shelf.Tests.{and-parts, cases-eq}
-use Rattle.model.specs.Image.{Image, Write}
+use Rattle.model.specs.Image.{Image, is-ok, writes}
 use Rattle.model.specs.Refusals.{entries as full, inside, lost, misspelt, start, taken, mkdir, move, picked}
 use Rattle.model.specs.Names.{names, spelt, Path, within, proper-name, padded}
 use Rattle.model.specs.Tables.{Entry, Tables, no-entry, live, entries-bytes}
@@ -19,10 +18,10 @@ use Rattle.model.specs.Book.{last}
 use Rattle.model.specs.Volume.{holder, is-dir, named, climb, checks, starts, leads, free-entry, or-zero, new-entry, renamed, tables-after, dirs-write, files-write, entry-write, sector-writes}
 use Rattle.model.specs.Sound.{Shaped, Live, Sound}
 use Rattle.model.proofs.Common.Tests.{some-out, none-out}
-use Rattle.model.proofs.Store.Writes.{Able, look-off, look-head}
+use Rattle.model.proofs.Store.Writes.{Able}
 use Rattle.model.proofs.Naming.Spelling.{trimmed-padded, padded-live, proper-parts, length-padded, last-spelt}
 use Rattle.model.proofs.Tables.Climbs.{Place, place-climbs}
-use Rattle.model.proofs.Tables.Loads.{Holds, alive-from, dirs-back, files-back, dirs-512, files-512, Next}
+use Rattle.model.proofs.Tables.Loads.{Holds, holds-after, dirs-back, files-back, dirs-512, files-512, Next}
 use Rattle.model.proofs.Tables.Rules.{held-from}
 use Rattle.model.proofs.Tables.Walks.{free-at, child-none, untaken, Found, found, Fresh, fresh-entry, not-inside}
 use Rattle.model.proofs.Calls.Checks.{pass, pass-not}
@@ -95,50 +94,22 @@ module _ (i : Image) (t : Tables) (shaped : Shaped t) (holds : Holds i t) (n : �
       }
 
   next-dirs : Treed (set (t .dirs) n e) (t .files) → Rowed i (t .marks) (t .files) (t .rows) → Next i (dirs-set t n e) (dirs-write (dirs-set t n e) ∷ [])
-  next-dirs tree rows =
-      record {
-        able = ok;
-        holds = record {
-          map-at = look-off ws i 0x100 ((λ q. omega arith), tt) ∙ holds .map-at;
-          dirs-at = (entries-bytes (set (t .dirs) n e), look-head (dirs-write u) [] i ok tt, dirs-back u dirs-set-shaped);
-          files-at = (holds .files-at .0, look-off ws i 0x102 ((λ q. omega arith), tt) ∙ holds .files-at .1, holds .files-at .2);
-          rows-at = (holds .rows-at .0, look-off ws i 0x103 ((λ q. omega arith), tt) ∙ holds .rows-at .1, holds .rows-at .2);
-        };
-        shaped = dirs-set-shaped;
-        facts = sound-from i u dirs-set-shaped tree rows;
-      }
+  next-dirs tree rows = record { able = ok; holds = after; shaped = dirs-set-shaped; facts = sound-from i (dirs-set t n e) dirs-set-shaped tree rows }
     where
-      u : Tables
-      u = dirs-set t n e
-
-      ws : List Write
-      ws = dirs-write (dirs-set t n e) ∷ []
-
       ok : Able i (dirs-write (dirs-set t n e) ∷ [])
-      ok = (alive-from i 0x101 (holds .dirs-at .0) (holds .dirs-at .1), dirs-512 (dirs-set t n e) dirs-set-shaped, tt)
+      ok = (ap is-ok (holds .dirs-at .1), dirs-512 (dirs-set t n e) dirs-set-shaped, tt)
+
+      after : Holds (writes (dirs-write (dirs-set t n e) ∷ []) i .image) (dirs-set t n e)
+      after = holds-after i t (dirs-set t n e) (dirs-write (dirs-set t n e) ∷ []) ok holds (entries-bytes (set (t .dirs) n e)) (holds .files-at .0) (holds .rows-at .0) refl refl (dirs-back (dirs-set t n e) dirs-set-shaped) refl (holds .files-at .2) refl (holds .rows-at .2)
 
   next-files : Treed (t .dirs) (set (t .files) n e) → Rowed i (t .marks) (set (t .files) n e) (t .rows) → Next i (files-set t n e) (files-write (files-set t n e) ∷ [])
-  next-files tree rows =
-      record {
-        able = ok;
-        holds = record {
-          map-at = look-off ws i 0x100 ((λ q. omega arith), tt) ∙ holds .map-at;
-          dirs-at = (holds .dirs-at .0, look-off ws i 0x101 ((λ q. omega arith), tt) ∙ holds .dirs-at .1, holds .dirs-at .2);
-          files-at = (entries-bytes (set (t .files) n e), look-head (files-write u) [] i ok tt, files-back u files-set-shaped);
-          rows-at = (holds .rows-at .0, look-off ws i 0x103 ((λ q. omega arith), tt) ∙ holds .rows-at .1, holds .rows-at .2);
-        };
-        shaped = files-set-shaped;
-        facts = sound-from i u files-set-shaped tree rows;
-      }
+  next-files tree rows = record { able = ok; holds = after; shaped = files-set-shaped; facts = sound-from i (files-set t n e) files-set-shaped tree rows }
     where
-      u : Tables
-      u = files-set t n e
-
-      ws : List Write
-      ws = files-write (files-set t n e) ∷ []
-
       ok : Able i (files-write (files-set t n e) ∷ [])
-      ok = (alive-from i 0x102 (holds .files-at .0) (holds .files-at .1), files-512 (files-set t n e) files-set-shaped, tt)
+      ok = (ap is-ok (holds .files-at .1), files-512 (files-set t n e) files-set-shaped, tt)
+
+      after : Holds (writes (files-write (files-set t n e) ∷ []) i .image) (files-set t n e)
+      after = holds-after i t (files-set t n e) (files-write (files-set t n e) ∷ []) ok holds (holds .dirs-at .0) (entries-bytes (set (t .files) n e)) (holds .rows-at .0) refl refl (holds .dirs-at .2) refl (files-back (files-set t n e) files-set-shaped) refl (holds .rows-at .2)
 
 -- mkdir ------------------------------------------------------------------------------------------------
 

@@ -10,7 +10,7 @@ use lib.ListN.{length, getD, set, replicate}
 use Rattle.std.specs.declared.option.Option.the-variants.{Some, None}
 use Rattle.std.proofs.shelf.Lists.{getD-append-right, getD-set-other, getD-set-same, length-append, length-replicate, length-set}
 use Rattle.std.proofs.shelf.Tests.{and-parts, cases-eq, leb-true}
-use Rattle.model.specs.Image.{Image, Write}
+use Rattle.model.specs.Image.{Image, is-ok, Write, writes}
 use Rattle.model.specs.Refusals.{entries as full, lost, misspelt, sectors, size, start, taken, write, picked}
 use Rattle.model.specs.Names.{names, spelt}
 use Rattle.model.specs.Tables.{Entry, Tables, live, used, entries-bytes, rows-bytes, data-sector, member, distinct}
@@ -20,11 +20,11 @@ use Rattle.model.specs.Volume.{holder, named, checks, starts, leads, free-entr
 use Rattle.model.specs.Sound.{Shaped, ProperRow, Sound}
 use Rattle.model.proofs.Common.Members.{at-member}
 use Rattle.model.proofs.Common.Tests.{refute, some-out, none-out}
-use Rattle.model.proofs.Store.Bodies.{data-able, data-off}
-use Rattle.model.proofs.Store.Writes.{Able, look-off, look-head, look-later, able-append, look-after}
+use Rattle.model.proofs.Store.Bodies.{data-able, left-data}
+use Rattle.model.proofs.Store.Writes.{Able, able-append}
 use Rattle.model.proofs.Tables.Climbs.{Place}
 use Rattle.model.proofs.Tables.Free.{Spare, given-spare, given-distinct, given-length}
-use Rattle.model.proofs.Tables.Loads.{Holds, alive-from, files-back, rows-again, files-512, rows-512, Next}
+use Rattle.model.proofs.Tables.Loads.{Holds, holds-after, files-back, rows-again, files-512, rows-512, Next}
 use Rattle.model.proofs.Tables.Places.{used-at, length-marked, used-padded}
 use Rattle.model.proofs.Tables.Rules.{data-from, held-from}
 use Rattle.model.proofs.Tables.Walks.{free-at, fresh-entry}
@@ -105,7 +105,7 @@ module _ (i : Image) (t : Tables) (shaped : Shaped t) (holds : Holds i t) (facts
   tail u = rows-write u ∷ map-write u ∷ files-write u ∷ []
 
   tail-able : Able i (tail (filled t j e ss))
-  tail-able = (alive-from i 0x103 (holds .rows-at .0) (holds .rows-at .1), rows-512 (filled t j e ss) filled-shaped, (alive-from i 0x100 (t .marks) (holds .map-at), filled-shaped .marks-long, (alive-from i 0x102 (holds .files-at .0) (holds .files-at .1), files-512 (filled t j e ss) filled-shaped, tt)))
+  tail-able = (ap is-ok (holds .rows-at .1), rows-512 (filled t j e ss) filled-shaped, (ap is-ok (holds .map-at), filled-shaped .marks-long, (ap is-ok (holds .files-at .1), files-512 (filled t j e ss) filled-shaped, tt)))
 
   all-able : Able i (data-writes ss w ++ tail (filled t j e ss))
   all-able = able-append i (data-writes ss w) (tail (filled t j e ss)) (data-able i ss w (λ s m. spare s m .alive) fits) tail-able
@@ -117,21 +117,10 @@ module _ (i : Image) (t : Tables) (shaped : Shaped t) (holds : Holds i t) (facts
       high b = omega arith
 
   filled-next : Treed (t .dirs) (set (t .files) j e) → Next i (filled t j e ss) (data-writes ss w ++ tail (filled t j e ss))
-  filled-next tree =
-      record {
-        able = all-able;
-        holds = record {
-          map-at = look-after (data-writes ss w) (tail u) i 0x100 (u .marks) all-able (λ k a. look-later (rows-write u) (map-write u ∷ files-write u ∷ []) k 0x100 (u .marks) a (λ k a. look-head (map-write u) (files-write u ∷ []) k a ((λ q. omega arith), tt)));
-          dirs-at = (holds .dirs-at .0, look-off (data-writes ss w ++ tail u) i 0x101 (data-off ss w (tail u) 0x101 (not-given 0x101 (omega arith)) ((λ q. omega arith), ((λ q. omega arith), ((λ q. omega arith), tt)))) ∙ holds .dirs-at .1, holds .dirs-at .2);
-          files-at = (entries-bytes (u .files), look-after (data-writes ss w) (tail u) i 0x102 (entries-bytes (u .files)) all-able (λ k a. look-later (rows-write u) (map-write u ∷ files-write u ∷ []) k 0x102 (entries-bytes (u .files)) a (λ k a. look-later (map-write u) (files-write u ∷ []) k 0x102 (entries-bytes (u .files)) a (λ k a. look-head (files-write u) [] k a tt))), files-back u filled-shaped);
-          rows-at = (rows-bytes (u .rows), look-after (data-writes ss w) (tail u) i 0x103 (rows-bytes (u .rows)) all-able (λ k a. look-head (rows-write u) (map-write u ∷ files-write u ∷ []) k a ((λ q. omega arith), ((λ q. omega arith), tt))), rows-again u filled-shaped);
-        };
-        shaped = filled-shaped;
-        facts = sound-from i u filled-shaped tree filled-rows;
-      }
+  filled-next tree = record { able = all-able; holds = after; shaped = filled-shaped; facts = sound-from i (filled t j e ss) filled-shaped tree filled-rows }
     where
-      u : Tables
-      u = filled t j e ss
+      after : Holds (writes (data-writes ss w ++ tail (filled t j e ss)) i .image) (filled t j e ss)
+      after = holds-after i t (filled t j e ss) (data-writes ss w ++ tail (filled t j e ss)) all-able holds (holds .dirs-at .0) (entries-bytes (set (t .files) j e)) (rows-bytes (set (t .rows) j (row-of ss))) (left-data ss w (tail (filled t j e ss)) 0x100 (t .marks) (not-given 0x100 (omega arith))) (left-data ss w (tail (filled t j e ss)) 0x101 (holds .dirs-at .0) (not-given 0x101 (omega arith))) (holds .dirs-at .2) (left-data ss w (tail (filled t j e ss)) 0x102 (holds .files-at .0) (not-given 0x102 (omega arith))) (files-back (filled t j e ss) filled-shaped) (left-data ss w (tail (filled t j e ss)) 0x103 (holds .rows-at .0) (not-given 0x103 (omega arith))) (rows-again (filled t j e ss) filled-shaped)
 
 -- write --------------------------------------------------------------------------------------------
 

@@ -14,7 +14,7 @@ use Rattle.model.specs.Tables.{all, member, distinct}
 use Rattle.model.specs.Volume.{bytes-or-blank, body, data-writes}
 use Rattle.model.specs.Law.{whole, whole-sector}
 use Rattle.model.proofs.Common.Tests.{all-holds}
-use Rattle.model.proofs.Store.Writes.{put-same, put-other, writes-step, Able, Off, look-off, Past, past-off}
+use Rattle.model.proofs.Store.Writes.{put-same, put-other, writes-step, Able, Off, look-off, left-at, Past, past-off}
 
 -- lengths of bodies -------------------------------------------------------------------------------
 
@@ -59,6 +59,10 @@ data-able i (s ∷ ss) w ok l = (
 pub data-off : (ss w : List ℕ) (ws : List Write) (x : ℕ) → member x ss ≡ false → Off x ws → Off x (data-writes ss w ++ ws)
 data-off [] w ws x h o = o
 data-off (s ∷ ss) w ws x h o = let a = or-parts (eqb x s) (member x ss) h in (eqb-false x s (a .0), data-off ss (drop 512 w) ws x (a .1) o)
+
+pub left-data : (ss w : List ℕ) (ws : List Write) (x : ℕ) (b : List ℕ) → member x ss ≡ false → left-at x (data-writes ss w ++ ws) b ≡ left-at x ws b
+left-data [] w ws x b h = refl
+left-data (s ∷ ss) w ws x b h = let a = or-parts (eqb x s) (member x ss) h in ap (λ c. left-at x (data-writes ss (drop 512 w) ++ ws) (cond c (take 512 w) b)) (a .0) ∙ left-data ss (drop 512 w) ws x b (a .1)
 
 abbrev Good : Image → ℕ → Type 0
 Good i x = (x ≤ 255) × (is-ok (look i x) ≡ true)

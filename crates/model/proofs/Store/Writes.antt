@@ -5,13 +5,13 @@ use mathlib.Core.Bool.{Bool, true, false, cond}
 use mathlib.Core.List.{List, [], _∷_, _++_}
 use Prim.Native.Nat.{ℕ, _≤_, _<_}
 use native.Mathlib.Omega.{arith}
-use lib.Dec.{ltb, leb}
+use lib.Dec.{ltb, leb, eqb}
 use lib.ListN.{length, getD, set}
 use Rattle.std.specs.declared.option.Option.the-variants.{None}
 use Rattle.std.specs.declared.result.Result.{Result}
 use Rattle.std.specs.declared.result.Result.the-variants.{Ok, Err}
 use Rattle.std.proofs.shelf.Lists.{getD-set-other, getD-set-same, length-set}
-use Rattle.std.proofs.shelf.Tests.{and-from, and-parts, cases-eq, eq-eqb, false≢true, lt-ltb, ltb-true}
+use Rattle.std.proofs.shelf.Tests.{and-from, and-parts, cases-eq, eq-eqb, eqb-false, eqb-true, false≢true, lt-ltb, ltb-true}
 use Rattle.model.specs.Image.{bytes, dead, Fault, Sector, Image, past-end-at, seen, look, is-ok, stored, put, Write, writes, go-on}
 use Rattle.model.specs.Tables.{all}
 use Rattle.model.specs.Law.{whole, whole-sector}
@@ -124,22 +124,24 @@ look-off (w ∷ ws) i s o = go (look i (w .at)) (look-off ws (put i (w .at) (w .
     go (Ok old) e = e
     go (Err f) e = refl
 
--- the first of ws is at s, and no later one
-pub look-head : (w : Write) (ws : List Write) (i : Image) → Able i (w ∷ ws) → Off (w .at) ws → look (writes (w ∷ ws) i .image) (w .at) ≡ Ok (w .new)
-look-head w ws i a o = ap (λ x. look (x .image) (w .at)) (writes-step w ws i (a .0)) ∙ look-off ws (put i (w .at) (w .new)) (w .at) o ∙ put-same i (w .at) (w .new) (a .0)
+-- what stands at s after the writes ws, where b stood before
+abbrev pub left-at : ℕ → List Write → List ℕ → List ℕ
+left-at s [] b = b
+left-at s (w ∷ ws) b = left-at s ws (cond (eqb s (w .at)) (w .new) b)
 
-pub look-later : (w : Write) (ws : List Write) (i : Image) (s : ℕ) (b : List ℕ) → Able i (w ∷ ws) → ((j : Image) → Able j ws → look (writes ws j .image) s ≡ Ok b) → look (writes (w ∷ ws) i .image) s ≡ Ok b
-look-later w ws i s b a later =
+pub look-left : (ws : List Write) (i : Image) (s : ℕ) (b : List ℕ) → Able i ws → look i s ≡ Ok b → look (writes ws i .image) s ≡ Ok (left-at s ws b)
+look-left [] i s b a h = h
+look-left (w ∷ ws) i s b a h =
     let l = like-put i (w .at) (w .new) (a .0) (a .1) in
-    ap (λ x. look (x .image) s) (writes-step w ws i (a .0)) ∙ later (put i (w .at) (w .new)) (able-like i (put i (w .at) (w .new)) l ws (a .2))
+    ap (λ x. look (x .image) s) (writes-step w ws i (a .0)) ∙ look-left ws (put i (w .at) (w .new)) s (cond (eqb s (w .at)) (w .new) b) (able-like i (put i (w .at) (w .new)) l ws (a .2)) (go (eqb s (w .at)) refl)
+  where
+    go : (c : Bool) → eqb s (w .at) ≡ c → look (put i (w .at) (w .new)) s ≡ Ok (cond c (w .new) b)
+    go true e = ap (look (put i (w .at) (w .new))) (eqb-true s (w .at) e) ∙ put-same i (w .at) (w .new) (a .0)
+    go false e = put-other i (w .at) s (w .new) (eqb-false s (w .at) e) ∙ h
 
 pub able-append : (i : Image) (vs ws : List Write) → Able i vs → Able i ws → Able i (vs ++ ws)
 able-append i [] ws a b = b
 able-append i (v ∷ vs) ws a b = (a .0, a .1, able-append i vs ws (a .2) b)
-
-pub look-after : (vs ws : List Write) (i : Image) (s : ℕ) (b : List ℕ) → Able i (vs ++ ws) → ((j : Image) → Able j ws → look (writes ws j .image) s ≡ Ok b) → look (writes (vs ++ ws) i .image) s ≡ Ok b
-look-after [] ws i s b a later = later i a
-look-after (v ∷ vs) ws i s b a later = look-later v (vs ++ ws) i s b a (λ j c. look-after vs ws j s b c later)
 
 -- sectors past those of data change no body
 abbrev pub Past : List Write → Type 0

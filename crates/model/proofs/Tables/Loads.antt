@@ -1,6 +1,5 @@
 -- The layout of the tables: what is written loads again.
 use mathlib.Core.Path.{_≡_, refl, ap, ap₂, _∙_}
-use mathlib.Core.Bool.{true}
 use mathlib.Core.List.{List, [], _∷_, _++_, map}
 use Prim.Native.Nat.{ℕ, zero, suc, _+_, _*_, _<_}
 use native.Mathlib.Omega.{arith}
@@ -8,10 +7,10 @@ use lib.ListN.{length, getD}
 use Rattle.std.specs.declared.result.Result.{Result}
 use Rattle.std.specs.declared.result.Result.the-variants.{Ok, Err}
 use Rattle.std.proofs.shelf.Lists.{drop-at, length-append, take-at}
-use Rattle.model.specs.Image.{Fault, Image, look, is-ok, Write, writes}
+use Rattle.model.specs.Image.{Fault, Image, look, Write, writes}
 use Rattle.model.specs.Tables.{tables, Entry, Tables, no-entry, entry, entries-bytes, rows-bytes, parts, entries, after-ok, load}
 use Rattle.model.specs.Sound.{Shaped, Sound}
-use Rattle.model.proofs.Store.Writes.{Able}
+use Rattle.model.proofs.Store.Writes.{Able, left-at, look-left}
 
 rows-back : (n : ℕ) (rs : List (List ℕ)) → length rs ≡ n → ((k : ℕ) → k < n → length (getD rs k []) ≡ 16) → parts n (rows-bytes rs) ≡ rs
 rows-back zero [] e h = refl
@@ -98,8 +97,15 @@ holds-load i t h =
     let p = h .dirs-at .2 in let q = h .files-at .2 in let r = h .rows-at .2 in
     e ∙ (λ j. Ok (record { marks = t .marks; dirs = p j; files = q j; rows = r j }))
 
-pub alive-from : (i : Image) (s : ℕ) (b : List ℕ) → look i s ≡ Ok b → is-ok (look i s) ≡ true
-alive-from i s b e = ap is-ok e
+-- writes leave the tables u where they leave these bytes in the four sectors
+pub holds-after : (i : Image) (t u : Tables) (ws : List Write) → Able i ws → (h : Holds i t) (d f r : List ℕ) → left-at 0x100 ws (t .marks) ≡ u .marks → left-at 0x101 ws (h .dirs-at .0) ≡ d → entries d ≡ u .dirs → left-at 0x102 ws (h .files-at .0) ≡ f → entries f ≡ u .files → left-at 0x103 ws (h .rows-at .0) ≡ r → parts 32 r ≡ u .rows → Holds (writes ws i .image) u
+holds-after i t u ws a h d f r m p q x y v w =
+    record {
+      map-at = look-left ws i 0x100 (t .marks) a (h .map-at) ∙ ap Ok m;
+      dirs-at = (d, look-left ws i 0x101 (h .dirs-at .0) a (h .dirs-at .1) ∙ ap Ok p, q);
+      files-at = (f, look-left ws i 0x102 (h .files-at .0) a (h .files-at .1) ∙ ap Ok x, y);
+      rows-at = (r, look-left ws i 0x103 (h .rows-at .0) a (h .rows-at .1) ∙ ap Ok v, w);
+    }
 
 -- the encodings of shaped tables
 module _ (t : Tables) (shaped : Shaped t) where
