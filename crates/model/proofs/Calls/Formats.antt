@@ -127,23 +127,14 @@ module _ (i : Image) (t : Tables) (holds : Holds i t) (m z : List ℕ) (m-long :
       high : (s : ℕ) → 0xff < s → 0x0b ≤ s
       high s l = omega arith
 
-  abbrev w₀ : Write
-  w₀ = record { at = 0x100; new = m }
+  abbrev ws : List Write
+  ws = record { at = 0x100; new = m } ∷ record { at = 0x101; new = z } ∷ record { at = 0x102; new = z } ∷ record { at = 0x103; new = z } ∷ []
 
-  abbrev w₁ : Write
-  w₁ = record { at = 0x101; new = z }
-
-  abbrev w₂ : Write
-  w₂ = record { at = 0x102; new = z }
-
-  abbrev w₃ : Write
-  w₃ = record { at = 0x103; new = z }
-
-  ok : Able i (w₀ ∷ w₁ ∷ w₂ ∷ w₃ ∷ [])
+  ok : Able i ws
   ok = (ap is-ok (holds .map-at), m-long, (ap is-ok (holds .dirs-at .1), z-long, (ap is-ok (holds .files-at .1), z-long, (ap is-ok (holds .rows-at .1), z-long, tt))))
 
-  new-next : Next i new (w₀ ∷ w₁ ∷ w₂ ∷ w₃ ∷ [])
-  new-next = record { able = ok; holds = holds-after i t new (w₀ ∷ w₁ ∷ w₂ ∷ w₃ ∷ []) ok holds z z z refl refl z-entries refl z-entries refl z-rows; shaped = new-shaped; facts = sound-from i new new-shaped new-tree new-rows }
+  new-next : Next i new ws
+  new-next = record { able = ok; holds = holds-after i t new ws ok holds z z z refl refl z-entries refl z-entries refl z-rows; shaped = new-shaped; facts = sound-from i new new-shaped new-tree new-rows }
 
   new-bare : (j : Image) → tree-of new j ≡ record { dirs = replicate n None; files = replicate n None }
   new-bare j = λ k. record { dirs = no-dirs (replicate n blank) n k; files = no-files (replicate n blank) j n k }

@@ -13,7 +13,7 @@ use Rattle.model.specs.Image.{Image, look, writes}
 use Rattle.model.specs.Refusals.{entries, lost, misspelt, start, mkdir, unlink, picked}
 use Rattle.model.specs.Names.{names, spelt, Path, same-path}
 use Rattle.model.specs.Tables.{Entry, Tables, no-entry, live, trimmed, used}
-use Rattle.model.specs.Tree.{file, is-some, added-at, added, unless-gone, without}
+use Rattle.model.specs.Tree.{file, is-some, added-at, unless-gone, without}
 use Rattle.model.specs.History.{whole as whole-path, change}
 use Rattle.model.specs.Volume.{is-file, number-of, named, climb, item-path, body, dir-items, file-items, tree-of, checks, starts, leads, free-entry, first-bytes, freed, or-zero, new-entry, made, unlinked, tables-after, map-write, dirs-write, files-write, sector-writes}
 use Rattle.model.specs.Sound.{Shaped, Live, Sound}
@@ -61,15 +61,10 @@ module _ (i : Image) (t : Tables) (shaped : Shaped t) (s : Sound i t) where
       let f = fresh-entry i t shaped s d p (a .0) (z .0) (l .0) in
       let m = some-out (free-entry (t .dirs)) (c .0) in
       let u = unused-dirs i t shaped s ∙ m .1 in
-      same-tree (dir-items (set (t .dirs) (or-zero (free-entry (t .dirs))) (new-entry t d p)) (set (t .dirs) (or-zero (free-entry (t .dirs))) (new-entry t d p)))
-      (added (tree-of t i .dirs) (record { path = whole-path (tree-of t i) d p; bytes = [] }))
-      (file-items (set (t .dirs) (or-zero (free-entry (t .dirs))) (new-entry t d p)) (writes (dirs-write (made t d p) ∷ []) i .image) (t .files) (t .rows))
-      (tree-of t i .files)
-      (ap (λ n. dir-items (set (t .dirs) n (new-entry t d p)) (set (t .dirs) n (new-entry t d p))) (ap or-zero (m .1))
+      same-tree (ap (λ n. dir-items (set (t .dirs) n (new-entry t d p)) (set (t .dirs) n (new-entry t d p))) (ap or-zero (m .1))
       ∙ dirs-made (m .0) (m .1) (new-entry t d p) (climb (t .dirs) 32 d ++ names p) f
       ∙ ap (λ (q : Path). set (dir-items (t .dirs) (t .dirs)) (m .0) (Some (record { path = q; bytes = [] }))) (sym (z .1))
-      ∙ ap (λ o. added-at o (tree-of t i .dirs) (record { path = whole-path (tree-of t i) d p; bytes = [] })) (sym u))
-      (ap (λ n. file-items (set (t .dirs) n (new-entry t d p)) (writes (dirs-write (made t d p) ∷ []) i .image) (t .files) (t .rows)) (ap or-zero (m .1))
+      ∙ ap (λ o. added-at o (tree-of t i .dirs) (record { path = whole-path (tree-of t i) d p; bytes = [] })) (sym u)) (ap (λ n. file-items (set (t .dirs) n (new-entry t d p)) (writes (dirs-write (made t d p) ∷ []) i .image) (t .files) (t .rows)) (ap or-zero (m .1))
       ∙ files-made (m .0) (m .1) (new-entry t d p) (climb (t .dirs) 32 d ++ names p) f (writes (dirs-write (made t d p) ∷ []) i .image) (λ r h. data-kept (dirs-write (made t d p) ∷ []) i r h (omega arith, tt)))
 
   module _ (x : ℕ) (lx : Live (t .files) x) (j : Image) (h : (r : ℕ) → r ≤ 255 → look j r ≡ look i r) where
@@ -101,10 +96,6 @@ module _ (i : Image) (t : Tables) (shaped : Shaped t) (s : Sound i t) where
       let f = found i t shaped s d p file (x .0) (a .0) (z .0) (x .1) in
       let u = unlinked t (number-of (named t d p)) in
       let j = writes (files-write u ∷ map-write u ∷ []) i .image in
-      same-tree (tree-of t i .dirs) (tree-of t i .dirs)
-      (file-items (t .dirs) j (freed (t .files) (number-of (named t d p))) (t .rows))
-      (without (same-path (whole-path (tree-of t i) d p)) (tree-of t i .files))
-      refl
-      (ap (λ n. file-items (t .dirs) j (freed (t .files) n) (t .rows)) (ap number-of (x .1))
+      same-tree refl (ap (λ n. file-items (t .dirs) j (freed (t .files) n) (t .rows)) (ap number-of (x .1))
       ∙ files-unlinked (x .0) (f .0) j (λ r h. data-kept (files-write u ∷ map-write u ∷ []) i r h (omega arith, (omega arith, tt)))
       ∙ ap (λ (q : Path). without (same-path q) (tree-of t i .files)) (f .1 ∙ sym (z .1)))

@@ -15,7 +15,7 @@ use Rattle.model.specs.Refusals.{inside, lost, misspelt, start, taken, move, p
 use Rattle.model.specs.Names.{names, spelt, Path, within}
 use Rattle.model.specs.Tables.{root, Entry, Tables, no-entry, live, trimmed, used, climbs}
 use Rattle.model.specs.Tree.{Kind, directory, file, is-some, carried, moved}
-use Rattle.model.specs.History.{whole as whole-path, change}
+use Rattle.model.specs.History.{change}
 use Rattle.model.specs.Volume.{is-dir, named, climb, item-path, body, dir-items, file-items, tree-of, checks, starts, leads, new-entry, renamed, tables-after, dirs-write, files-write, entry-write, sector-writes}
 use Rattle.model.specs.Sound.{Shaped, Live, Sound}
 use Rattle.model.proofs.Store.Writes.{data-kept}
@@ -201,13 +201,8 @@ module _ (i : Image) (t : Tables) (shaped : Shaped t) (s : Sound i t) where
           let u = renamed t (Some (directory, x)) (new-entry t d q) in
           let j = writes (dirs-write u ∷ []) i .image in
           let apart = ap (λ (y : Path). within y (climb (t .dirs) 32 (new-entry t d q .parent))) (n .1) ∙ not-inside i t shaped s (climb (t .dirs) 32 d) (names p) (names q) (new-entry t d q) f w in
-          same-tree (dir-items (set (t .dirs) x (new-entry t d q)) (set (t .dirs) x (new-entry t d q)))
-          (moved (whole-path (tree-of t i) d p) (whole-path (tree-of t i) d q) (tree-of t i .dirs))
-          (file-items (set (t .dirs) x (new-entry t d q)) j (t .files) (t .rows))
-          (moved (whole-path (tree-of t i) d p) (whole-path (tree-of t i) d q) (tree-of t i .files))
-          (dirs-moved x (n .0) (new-entry t d q) (climb (t .dirs) 32 d ++ names q) f apart
-          ∙ ap₂ (λ (y z : Path). moved y z (tree-of t i .dirs)) (n .1 ∙ sym (zp .1)) (sym (zq .1)))
-          (beneath-moved x (n .0) (new-entry t d q) (climb (t .dirs) 32 d ++ names q) f apart j (λ r h. data-kept (dirs-write u ∷ []) i r h (omega arith, tt))
+          same-tree (dirs-moved x (n .0) (new-entry t d q) (climb (t .dirs) 32 d ++ names q) f apart
+          ∙ ap₂ (λ (y z : Path). moved y z (tree-of t i .dirs)) (n .1 ∙ sym (zp .1)) (sym (zq .1))) (beneath-moved x (n .0) (new-entry t d q) (climb (t .dirs) 32 d ++ names q) f apart j (λ r h. data-kept (dirs-write u ∷ []) i r h (omega arith, tt))
           ∙ ap₂ (λ (y z : Path). moved y z (tree-of t i .files)) (n .1 ∙ sym (zp .1)) (sym (zq .1)))
 
       file-case : spelt p ≡ true → spelt q ≡ true → starts t d ≡ true → leads t d q ≡ true → (x : ℕ) → named t d p ≡ Some (file, x) → Moved d p q (Some (file, x))
@@ -218,13 +213,8 @@ module _ (i : Image) (t : Tables) (shaped : Shaped t) (s : Sound i t) where
           let n = found i t shaped s d p file x sp (zp .0) e in
           let u = renamed t (Some (file, x)) (new-entry t d q) in
           let j = writes (files-write u ∷ []) i .image in
-          same-tree (dir-items (t .dirs) (t .dirs))
-          (moved (whole-path (tree-of t i) d p) (whole-path (tree-of t i) d q) (tree-of t i .dirs))
-          (file-items (t .dirs) j (set (t .files) x (new-entry t d q)) (t .rows))
-          (moved (whole-path (tree-of t i) d p) (whole-path (tree-of t i) d q) (tree-of t i .files))
-          (dirs-still x (n .0) (new-entry t d q) (climb (t .dirs) 32 d ++ names q) f
-          ∙ ap₂ (λ (y z : Path). moved y z (tree-of t i .dirs)) (n .1 ∙ sym (zp .1)) (sym (zq .1)))
-          (files-moved x (n .0) (new-entry t d q) (climb (t .dirs) 32 d ++ names q) f j (λ r h. data-kept (files-write u ∷ []) i r h (omega arith, tt))
+          same-tree (dirs-still x (n .0) (new-entry t d q) (climb (t .dirs) 32 d ++ names q) f
+          ∙ ap₂ (λ (y z : Path). moved y z (tree-of t i .dirs)) (n .1 ∙ sym (zp .1)) (sym (zq .1))) (files-moved x (n .0) (new-entry t d q) (climb (t .dirs) 32 d ++ names q) f j (λ r h. data-kept (files-write u ∷ []) i r h (omega arith, tt))
           ∙ ap₂ (λ (y z : Path). moved y z (tree-of t i .files)) (n .1 ∙ sym (zp .1)) (sym (zq .1)))
 
       kinds : spelt p ≡ true → spelt q ≡ true → starts t d ≡ true → leads t d q ≡ true → (k : Kind) (x : ℕ) → named t d p ≡ Some (k, x) → (is-dir (Some (k, x)) && within (names p) (names q)) ≡ false → Moved d p q (Some (k, x))

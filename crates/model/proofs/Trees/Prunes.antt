@@ -13,7 +13,7 @@ use Rattle.model.specs.Refusals.{lost, misspelt, start, prune, picked}
 use Rattle.model.specs.Names.{spelt, Path, within}
 use Rattle.model.specs.Tables.{Entry, Tables, no-entry, live, trimmed, used}
 use Rattle.model.specs.Tree.{directory, unless-gone, without}
-use Rattle.model.specs.History.{whole as whole-path, change}
+use Rattle.model.specs.History.{change}
 use Rattle.model.specs.Volume.{is-dir, number-of, named, climb, item-path, body, dir-items, file-items, tree-of, checks, starts, first-bytes, under, dirs-less, files-less, pruned, tables-after, map-write, dirs-write, files-write, sector-writes}
 use Rattle.model.specs.Sound.{Shaped, Live, Sound}
 use Rattle.model.proofs.Store.Writes.{data-kept}
@@ -112,13 +112,8 @@ module _ (i : Image) (t : Tables) (shaped : Shaped t) (s : Sound i t) where
       let u = pruned t (number-of (named t d p)) in
       let j = writes (files-write u ∷ dirs-write u ∷ map-write u ∷ []) i .image in
       let n = number-of (named t d p) in
-      same-tree (dir-items (dirs-less (t .dirs) n 0 (t .dirs)) (dirs-less (t .dirs) n 0 (t .dirs)))
-      (without (within (whole-path (tree-of t i) d p)) (tree-of t i .dirs))
-      (file-items (dirs-less (t .dirs) n 0 (t .dirs)) j (files-less (t .dirs) n (t .files)) (t .rows))
-      (without (within (whole-path (tree-of t i) d p)) (tree-of t i .files))
-      (ap (λ n. dir-items (dirs-less (t .dirs) n 0 (t .dirs)) (dirs-less (t .dirs) n 0 (t .dirs))) (ap number-of (x .1))
+      same-tree (ap (λ n. dir-items (dirs-less (t .dirs) n 0 (t .dirs)) (dirs-less (t .dirs) n 0 (t .dirs))) (ap number-of (x .1))
       ∙ dirs-pruned (x .0) (f .0)
-      ∙ ap (λ (q : Path). without (within q) (tree-of t i .dirs)) (f .1 ∙ sym (z .1)))
-      (ap (λ n. file-items (dirs-less (t .dirs) n 0 (t .dirs)) j (files-less (t .dirs) n (t .files)) (t .rows)) (ap number-of (x .1))
+      ∙ ap (λ (q : Path). without (within q) (tree-of t i .dirs)) (f .1 ∙ sym (z .1))) (ap (λ n. file-items (dirs-less (t .dirs) n 0 (t .dirs)) j (files-less (t .dirs) n (t .files)) (t .rows)) (ap number-of (x .1))
       ∙ files-pruned (x .0) (f .0) j (λ r h. data-kept (files-write u ∷ dirs-write u ∷ map-write u ∷ []) i r h (omega arith, (omega arith, (omega arith, tt))))
       ∙ ap (λ (q : Path). without (within q) (tree-of t i .files)) (f .1 ∙ sym (z .1)))

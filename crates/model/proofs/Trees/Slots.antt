@@ -18,8 +18,8 @@ use Rattle.model.specs.Volume.{dir-items, file-items}
 use Rattle.model.proofs.Naming.Same.{shift}
 use Rattle.model.proofs.Trees.Items.{dir-item, file-item, length-dir-items, dir-items-at, length-file-items, file-items-at}
 
-pub same-tree : (a b c d : Numbered) → a ≡ b → c ≡ d → _≡_ {A = Tree} (record { dirs = a; files = c }) (record { dirs = b; files = d })
-same-tree a b c d p q = λ j. record { dirs = p j; files = q j }
+pub same-tree : {a b c d : Numbered} → a ≡ b → c ≡ d → _≡_ {A = Tree} (record { dirs = a; files = c }) (record { dirs = b; files = d })
+same-tree p q = λ j. record { dirs = p j; files = q j }
 
 -- what an entry stands for ------------------------------------------------------------------------
 
