@@ -129,6 +129,9 @@ module _ (i : Image) (t : Tables) (shaped : Shaped t) (facts : Sound i t)
       (λ s m. let q = out-from s m in (q .0, q .1, q .2, cut-gone (at (t .files) (q .0)) (at fs (q .0)) (gf (q .0)) (cut-f (q .0)) (q .2 .1) (q .3)))
       (λ f j s n d. out-has f j s n (cut-why (at (t .files) f) (at fs f) (gf f) (cut-f f) (n .1) d)))
 
+  less-stays : Shaped less × Sound i less
+  less-stays = (less-shaped, less-sound)
+
 -- unlink -------------------------------------------------------------------------------------------------
 
 module _ (i : Image) (t : Tables) (shaped : Shaped t) (holds : Holds i t) (facts : Sound i t) where
@@ -154,8 +157,8 @@ module _ (i : Image) (t : Tables) (shaped : Shaped t) (holds : Holds i t) (facts
       go true = refl
       go false = refl
 
-  unlinked-sound : (j : ℕ) → Live (t .files) j → Shaped (unlinked t j) × Sound i (unlinked t j)
-  unlinked-sound j l = (less-shaped i t shaped facts (t .dirs) (freed (t .files) j) (λ d. false) (λ f. eqb f j) (used (row t j)) (shaped .dirs-many) many (λ d. all-kept (at (t .dirs) d)) (freed-cut (t .files) j l (shaped .files-many)) (λ d l q m. refl) (λ f l q m. refl) from has, less-sound i t shaped facts (t .dirs) (freed (t .files) j) (λ d. false) (λ f. eqb f j) (used (row t j)) (shaped .dirs-many) many (λ d. all-kept (at (t .dirs) d)) (freed-cut (t .files) j l (shaped .files-many)) (λ d l q m. refl) (λ f l q m. refl) from has)
+  unlinked-stays : (j : ℕ) → Live (t .files) j → Shaped (unlinked t j) × Sound i (unlinked t j)
+  unlinked-stays j l = less-stays i t shaped facts (t .dirs) (freed (t .files) j) (λ d. false) (λ f. eqb f j) (used (row t j)) (shaped .dirs-many) many (λ d. all-kept (at (t .dirs) d)) (freed-cut (t .files) j l (shaped .files-many)) (λ d l q m. refl) (λ f l q m. refl) from has
     where
       many : length (freed (t .files) j) ≡ 32
       many = length-set (t .files) j (first-bytes (at (t .files) j)) ∙ shaped .files-many
@@ -170,7 +173,7 @@ module _ (i : Image) (t : Tables) (shaped : Shaped t) (holds : Holds i t) (facts
   unlinked-next j l = record { able = ok; holds = after; shaped = s .0; facts = s .1 }
     where
       s : Shaped (unlinked t j) × Sound i (unlinked t j)
-      s = unlinked-sound j l
+      s = unlinked-stays j l
 
       ok : Able i (files-write (unlinked t j) ∷ map-write (unlinked t j) ∷ [])
       ok = (ap is-ok (holds .files-at .1), files-512 (unlinked t j) (s .0), (ap is-ok (holds .map-at), s .0 .marks-long, tt))
@@ -241,20 +244,17 @@ module _ (i : Image) (t : Tables) (shaped : Shaped t) (holds : Holds i t) (facts
   many-f : length (files-less (t .dirs) top (t .files)) ≡ 32
   many-f = files-length (t .dirs) top (t .files) ∙ shaped .files-many
 
-  pruned-shaped : Shaped (pruned t top)
-  pruned-shaped = less-shaped i t shaped facts (dirs-less (t .dirs) top 0 (t .dirs)) (files-less (t .dirs) top (t .files)) gd gf (places-under (t .dirs) top (t .files) (t .rows)) many-d many-f cut-here (files-cut (t .dirs) top (t .files)) dirs-up (λ f l h m. h) from has
-
-  pruned-sound : Sound i (pruned t top)
-  pruned-sound = less-sound i t shaped facts (dirs-less (t .dirs) top 0 (t .dirs)) (files-less (t .dirs) top (t .files)) gd gf (places-under (t .dirs) top (t .files) (t .rows)) many-d many-f cut-here (files-cut (t .dirs) top (t .files)) dirs-up (λ f l h m. h) from has
+  pruned-stays : Shaped (pruned t top) × Sound i (pruned t top)
+  pruned-stays = less-stays i t shaped facts (dirs-less (t .dirs) top 0 (t .dirs)) (files-less (t .dirs) top (t .files)) gd gf (places-under (t .dirs) top (t .files) (t .rows)) many-d many-f cut-here (files-cut (t .dirs) top (t .files)) dirs-up (λ f l h m. h) from has
 
   pruned-next : Next i (pruned t top) (files-write (pruned t top) ∷ dirs-write (pruned t top) ∷ map-write (pruned t top) ∷ [])
-  pruned-next = record { able = ok; holds = after; shaped = pruned-shaped; facts = pruned-sound }
+  pruned-next = record { able = ok; holds = after; shaped = pruned-stays .0; facts = pruned-stays .1 }
     where
       ok : Able i (files-write (pruned t top) ∷ dirs-write (pruned t top) ∷ map-write (pruned t top) ∷ [])
-      ok = (ap is-ok (holds .files-at .1), files-512 (pruned t top) pruned-shaped, (ap is-ok (holds .dirs-at .1), dirs-512 (pruned t top) pruned-shaped, (ap is-ok (holds .map-at), pruned-shaped .marks-long, tt)))
+      ok = (ap is-ok (holds .files-at .1), files-512 (pruned t top) (pruned-stays .0), (ap is-ok (holds .dirs-at .1), dirs-512 (pruned t top) (pruned-stays .0), (ap is-ok (holds .map-at), pruned-stays .0 .marks-long, tt)))
 
       after : Holds (writes (files-write (pruned t top) ∷ dirs-write (pruned t top) ∷ map-write (pruned t top) ∷ []) i .image) (pruned t top)
-      after = holds-after i t (pruned t top) (files-write (pruned t top) ∷ dirs-write (pruned t top) ∷ map-write (pruned t top) ∷ []) ok holds (entries-bytes (pruned t top .dirs)) (entries-bytes (pruned t top .files)) (holds .rows-at .0) refl refl (dirs-back (pruned t top) pruned-shaped) refl (files-back (pruned t top) pruned-shaped) refl (holds .rows-at .2)
+      after = holds-after i t (pruned t top) (files-write (pruned t top) ∷ dirs-write (pruned t top) ∷ map-write (pruned t top) ∷ []) ok holds (entries-bytes (pruned t top .dirs)) (entries-bytes (pruned t top .files)) (holds .rows-at .0) refl refl (dirs-back (pruned t top) (pruned-stays .0)) refl (files-back (pruned t top) (pruned-stays .0)) refl (holds .rows-at .2)
 
 module _ (i : Image) (t : Tables) (shaped : Shaped t) (holds : Holds i t) (facts : Sound i t) where
   pub prune-next : (d : ℕ) (p : List ℕ) → picked (checks t i (prune d p)) ≡ None → Next i (tables-after t (prune d p)) (sector-writes t (prune d p) (tables-after t (prune d p)))

@@ -64,7 +64,8 @@ module _ (i : Image) (t : Tables) (shaped : Shaped t) (s : Sound i t) where
       same-tree (ap (λ n. dir-items (set (t .dirs) n (new-entry t d p)) (set (t .dirs) n (new-entry t d p))) (ap or-zero (m .1))
       ∙ dirs-made (m .0) (m .1) (new-entry t d p) (climb (t .dirs) 32 d ++ names p) f
       ∙ ap (λ (q : Path). set (dir-items (t .dirs) (t .dirs)) (m .0) (Some (record { path = q; bytes = [] }))) (sym (z .1))
-      ∙ ap (λ o. added-at o (tree-of t i .dirs) (record { path = whole-path (tree-of t i) d p; bytes = [] })) (sym u)) (ap (λ n. file-items (set (t .dirs) n (new-entry t d p)) (writes (dirs-write (made t d p) ∷ []) i .image) (t .files) (t .rows)) (ap or-zero (m .1))
+      ∙ ap (λ o. added-at o (tree-of t i .dirs) (record { path = whole-path (tree-of t i) d p; bytes = [] })) (sym u))
+      (ap (λ n. file-items (set (t .dirs) n (new-entry t d p)) (writes (dirs-write (made t d p) ∷ []) i .image) (t .files) (t .rows)) (ap or-zero (m .1))
       ∙ files-made (m .0) (m .1) (new-entry t d p) (climb (t .dirs) 32 d ++ names p) f (writes (dirs-write (made t d p) ∷ []) i .image) (λ r h. data-kept (dirs-write (made t d p) ∷ []) i r h (omega arith, tt)))
 
   module _ (x : ℕ) (lx : Live (t .files) x) (j : Image) (h : (r : ℕ) → r ≤ 255 → look j r ≡ look i r) where
@@ -96,6 +97,7 @@ module _ (i : Image) (t : Tables) (shaped : Shaped t) (s : Sound i t) where
       let f = found i t shaped s d p file (x .0) (a .0) (z .0) (x .1) in
       let u = unlinked t (number-of (named t d p)) in
       let j = writes (files-write u ∷ map-write u ∷ []) i .image in
-      same-tree refl (ap (λ n. file-items (t .dirs) j (freed (t .files) n) (t .rows)) (ap number-of (x .1))
+      same-tree refl
+      (ap (λ n. file-items (t .dirs) j (freed (t .files) n) (t .rows)) (ap number-of (x .1))
       ∙ files-unlinked (x .0) (f .0) j (λ r h. data-kept (files-write u ∷ map-write u ∷ []) i r h (omega arith, (omega arith, tt)))
       ∙ ap (λ (q : Path). without (same-path q) (tree-of t i .files)) (f .1 ∙ sym (z .1)))

@@ -202,7 +202,8 @@ module _ (i : Image) (t : Tables) (shaped : Shaped t) (s : Sound i t) where
           let j = writes (dirs-write u ∷ []) i .image in
           let apart = ap (λ (y : Path). within y (climb (t .dirs) 32 (new-entry t d q .parent))) (n .1) ∙ not-inside i t shaped s (climb (t .dirs) 32 d) (names p) (names q) (new-entry t d q) f w in
           same-tree (dirs-moved x (n .0) (new-entry t d q) (climb (t .dirs) 32 d ++ names q) f apart
-          ∙ ap₂ (λ (y z : Path). moved y z (tree-of t i .dirs)) (n .1 ∙ sym (zp .1)) (sym (zq .1))) (beneath-moved x (n .0) (new-entry t d q) (climb (t .dirs) 32 d ++ names q) f apart j (λ r h. data-kept (dirs-write u ∷ []) i r h (omega arith, tt))
+          ∙ ap₂ (λ (y z : Path). moved y z (tree-of t i .dirs)) (n .1 ∙ sym (zp .1)) (sym (zq .1)))
+          (beneath-moved x (n .0) (new-entry t d q) (climb (t .dirs) 32 d ++ names q) f apart j (λ r h. data-kept (dirs-write u ∷ []) i r h (omega arith, tt))
           ∙ ap₂ (λ (y z : Path). moved y z (tree-of t i .files)) (n .1 ∙ sym (zp .1)) (sym (zq .1)))
 
       file-case : spelt p ≡ true → spelt q ≡ true → starts t d ≡ true → leads t d q ≡ true → (x : ℕ) → named t d p ≡ Some (file, x) → Moved d p q (Some (file, x))
@@ -214,7 +215,8 @@ module _ (i : Image) (t : Tables) (shaped : Shaped t) (s : Sound i t) where
           let u = renamed t (Some (file, x)) (new-entry t d q) in
           let j = writes (files-write u ∷ []) i .image in
           same-tree (dirs-still x (n .0) (new-entry t d q) (climb (t .dirs) 32 d ++ names q) f
-          ∙ ap₂ (λ (y z : Path). moved y z (tree-of t i .dirs)) (n .1 ∙ sym (zp .1)) (sym (zq .1))) (files-moved x (n .0) (new-entry t d q) (climb (t .dirs) 32 d ++ names q) f j (λ r h. data-kept (files-write u ∷ []) i r h (omega arith, tt))
+          ∙ ap₂ (λ (y z : Path). moved y z (tree-of t i .dirs)) (n .1 ∙ sym (zp .1)) (sym (zq .1)))
+          (files-moved x (n .0) (new-entry t d q) (climb (t .dirs) 32 d ++ names q) f j (λ r h. data-kept (files-write u ∷ []) i r h (omega arith, tt))
           ∙ ap₂ (λ (y z : Path). moved y z (tree-of t i .files)) (n .1 ∙ sym (zp .1)) (sym (zq .1)))
 
       kinds : spelt p ≡ true → spelt q ≡ true → starts t d ≡ true → leads t d q ≡ true → (k : Kind) (x : ℕ) → named t d p ≡ Some (k, x) → (is-dir (Some (k, x)) && within (names p) (names q)) ≡ false → Moved d p q (Some (k, x))

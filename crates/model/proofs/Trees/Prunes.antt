@@ -114,6 +114,7 @@ module _ (i : Image) (t : Tables) (shaped : Shaped t) (s : Sound i t) where
       let n = number-of (named t d p) in
       same-tree (ap (λ n. dir-items (dirs-less (t .dirs) n 0 (t .dirs)) (dirs-less (t .dirs) n 0 (t .dirs))) (ap number-of (x .1))
       ∙ dirs-pruned (x .0) (f .0)
-      ∙ ap (λ (q : Path). without (within q) (tree-of t i .dirs)) (f .1 ∙ sym (z .1))) (ap (λ n. file-items (dirs-less (t .dirs) n 0 (t .dirs)) j (files-less (t .dirs) n (t .files)) (t .rows)) (ap number-of (x .1))
+      ∙ ap (λ (q : Path). without (within q) (tree-of t i .dirs)) (f .1 ∙ sym (z .1)))
+      (ap (λ n. file-items (dirs-less (t .dirs) n 0 (t .dirs)) j (files-less (t .dirs) n (t .files)) (t .rows)) (ap number-of (x .1))
       ∙ files-pruned (x .0) (f .0) j (λ r h. data-kept (files-write u ∷ dirs-write u ∷ map-write u ∷ []) i r h (omega arith, (omega arith, (omega arith, tt))))
       ∙ ap (λ (q : Path). without (within q) (tree-of t i .files)) (f .1 ∙ sym (z .1)))

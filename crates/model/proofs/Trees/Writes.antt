@@ -72,7 +72,8 @@ module _ (i : Image) (t : Tables) (shaped : Shaped t) (s : Sound i t) where
       let ws = rows-write u ∷ map-write u ∷ files-write u ∷ [] in
       let j = writes (data-writes (given t w) w ++ ws) i .image in
       let line = given t w ++ replicate (16 - length (given t w)) 0 in
-      same-tree refl (ap (λ n. file-items (t .dirs) j (set (t .files) n (new-entry t d p)) (set (t .rows) n line)) (ap or-zero (m .1))
+      same-tree refl
+      (ap (λ n. file-items (t .dirs) j (set (t .files) n (new-entry t d p)) (set (t .rows) n line)) (ap or-zero (m .1))
       ∙ files-written (m .0) (m .1) (new-entry t d p) (climb (t .dirs) 32 d ++ names p) f w (g .0) (r .0) ws (omega arith, (omega arith, (omega arith, tt)))
       ∙ ap (λ (x : Path). set (tree-of t i .files) (m .0) (Some (record { path = x; bytes = w }))) (sym (z .1))
       ∙ ap (λ o. added-at o (tree-of t i .files) (record { path = whole-path (tree-of t i) d p; bytes = w })) (sym q))
