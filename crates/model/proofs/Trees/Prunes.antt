@@ -111,7 +111,6 @@ module _ (i : Image) (t : Tables) (shaped : Shaped t) (s : Sound i t) where
       let f = found i t shaped s d p directory (x .0) (a .0) (z .0) (x .1) in
       let u = pruned t (number-of (named t d p)) in
       let j = writes (files-write u ∷ dirs-write u ∷ map-write u ∷ []) i .image in
-      let n = number-of (named t d p) in
       same-tree (ap (λ n. dir-items (dirs-less (t .dirs) n 0 (t .dirs)) (dirs-less (t .dirs) n 0 (t .dirs))) (ap number-of (x .1))
       ∙ dirs-pruned (x .0) (f .0)
       ∙ ap (λ (q : Path). without (within q) (tree-of t i .dirs)) (f .1 ∙ sym (z .1)))
