@@ -25,9 +25,8 @@ use Rattle.model.proofs.Tables.Climbs.{up, climb-live}
 use Rattle.model.proofs.Tables.Loads.{Holds, holds-after, dirs-back, files-back, dirs-512, files-512, Next}
 use Rattle.model.proofs.Tables.Places.{used-at, places-under-is, member-places, places-member, length-marked}
 use Rattle.model.proofs.Tables.Rules.{held-from}
-use Rattle.model.proofs.Tables.Walks.{found, dir-out, file-out}
+use Rattle.model.proofs.Tables.Walks.{freed-gone, found, dir-out, file-out}
 use Rattle.model.proofs.Tables.Ways.{under-within}
-use Rattle.model.proofs.Trees.Keeps.{freed-gone}
 use Rattle.model.proofs.Calls.Checks.{pass-not}
 use Rattle.model.proofs.Calls.Entries.{at, Treed, Rest, thinned}
 use Rattle.model.proofs.Calls.Rows.{Site, treed-from, rowed-from, sound-from, rowed-less}

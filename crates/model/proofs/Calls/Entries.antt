@@ -40,7 +40,7 @@ dead-avoids ds x e (suc k) d h = go (λ y a. dead-avoids ds x e k y a) (climbs-c
     go ih (inl q) = inl q
     go ih (inr r) = inr ((λ q. both-ways (live (at ds x)) e (subst (λ y. live (at ds y) ≡ true) q (r .1 .1))), r .1, ih (up ds d) (r .2))
 
--- what lies beneath x has its path within that of x
+-- a way up from a path that is not within that of x does not meet x
 pub avoids-out : (ds : List Entry) (x m : ℕ) → climbs ds m x ≡ true → (k d : ℕ) → climbs ds k d ≡ true → within (climb ds m x) (climb ds k d) ≡ false → Avoids ds x k d
 avoids-out ds x m c zero d h w = climbs-zero ds d h
 avoids-out ds x m c (suc k) d h w = go (λ y a b. avoids-out ds x m c k y a b) (climbs-cases ds k d h)

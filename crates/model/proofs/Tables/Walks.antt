@@ -6,7 +6,7 @@ use mathlib.Core.List.{List, [], _∷_, _++_}
 use Prim.Native.Nat.{ℕ, _<_}
 use native.Mathlib.Omega.{arith}
 use lib.Dec.{eqb}
-use lib.ListN.{length, getD}
+use lib.ListN.{length, getD, set}
 use Rattle.std.specs.declared.option.Option.{Option}
 use Rattle.std.specs.declared.option.Option.the-variants.{Some, None}
 use Rattle.std.proofs.shelf.Lists.{append-assoc, append-nil}
@@ -16,7 +16,7 @@ use Rattle.model.specs.Names.{names, spelt, Name, Path, same-name, within, pro
 use Rattle.model.specs.Tables.{Entry, Tables, no-entry, live, trimmed}
 use Rattle.model.specs.Tree.{Kind, directory, file}
 use Rattle.model.specs.Book.{parent, last}
-use Rattle.model.specs.Volume.{is-child, child, either-kind, walk, item-in, holder, item, is-dir, is-file, named, climb, item-path, leads, free-entry, or-zero, new-entry}
+use Rattle.model.specs.Volume.{is-child, child, either-kind, walk, item-in, holder, item, is-dir, is-file, named, climb, item-path, leads, free-entry, first-bytes, or-zero, new-entry}
 use Rattle.model.specs.Sound.{Shaped, Live, Sound}
 use Rattle.model.proofs.Common.Searches.{first-some, first-none}
 use Rattle.model.proofs.Common.Tests.{no-some, some-out}
@@ -31,6 +31,13 @@ live-at es many k l e = (subst (λ m. k < m) many l, e)
 
 pub free-at : (es : List Entry) (m : ℕ) → free-entry es ≡ Some m → (m < length es) × (live (getD es m no-entry) ≡ false)
 free-at es m e = let a = first-some (λ e. not (live e)) no-entry es m e in (a .0, not-true (live (getD es m no-entry)) (a .1))
+
+pub freed-gone : (e : Entry) → live (first-bytes e) ≡ false
+freed-gone e = go (e .name)
+  where
+    go : (n : List ℕ) → live (record { parent = e .parent; name = set n 0 0 }) ≡ false
+    go [] = refl
+    go (b ∷ n) = refl
 
 pub child-live : (d : ℕ) (n : Name) (e : Entry) → proper-name n ≡ true → is-child d n e ≡ true → live e ≡ true
 child-live d n e p h =

@@ -1,29 +1,22 @@
 -- What tells two items apart, and what stays of an item while other entries change.
 use mathlib.Core.Path.{_≡_, refl, sym, ap, _∙_}
 use mathlib.Core.Bool.{Bool, true, false, cond}
-use mathlib.Core.List.{List, [], _∷_}
+use mathlib.Core.List.{List, []}
 use Prim.Native.Nat.{ℕ, _≤_}
-use lib.ListN.{length, getD, set}
+use lib.ListN.{length, getD}
 use Rattle.std.specs.declared.option.Option.{Option}
 use Rattle.std.specs.declared.option.Option.the-variants.{Some, None}
 use Rattle.std.proofs.shelf.Lists.{same-from-push}
 use Rattle.model.specs.Image.{Image, look}
 use Rattle.model.specs.Names.{Path, padded}
-use Rattle.model.specs.Tables.{Entry, Tables, no-entry, live, trimmed, used}
+use Rattle.model.specs.Tables.{Entry, Tables, no-entry, trimmed, used}
 use Rattle.model.specs.Tree.{Item, unless-gone, carried}
-use Rattle.model.specs.Volume.{climb, item-path, body, first-bytes}
+use Rattle.model.specs.Volume.{climb, item-path, body}
 use Rattle.model.specs.Sound.{Shaped, Live, Proper, Sound}
 use Rattle.model.proofs.Naming.Same.{shift}
 use Rattle.model.proofs.Tables.Climbs.{one-place}
 use Rattle.model.proofs.Tables.Free.{row-same}
 use Rattle.model.proofs.Trees.Slots.{it, it-same, carried-it}
-
-pub freed-gone : (e : Entry) → live (first-bytes e) ≡ false
-freed-gone e = go (e .name)
-  where
-    go : (n : List ℕ) → live (record { parent = e .parent; name = set n 0 0 }) ≡ false
-    go [] = refl
-    go (b ∷ n) = refl
 
 pub gone-not : (g : Path → Bool) (b : Bool) (p : Path) (c : List ℕ) → (b ≡ true → g p ≡ false) → unless-gone g (it b p c) ≡ it b p c
 gone-not g true p c h = ap (λ x. cond {A = Option Item} x None (Some (record { path = p; bytes = c }))) (h refl)

@@ -21,10 +21,10 @@ use Rattle.model.proofs.Common.Tests.{some-out}
 use Rattle.model.proofs.Store.Writes.{data-kept}
 use Rattle.model.proofs.Naming.Same.{eq-same-path, not-same}
 use Rattle.model.proofs.Tables.Climbs.{Place, place-climbs}
-use Rattle.model.proofs.Tables.Walks.{live-at, free-at, found, file-out, Fresh, fresh-entry}
+use Rattle.model.proofs.Tables.Walks.{live-at, free-at, freed-gone, found, file-out, Fresh, fresh-entry}
 use Rattle.model.proofs.Tables.Ways.{climb-kept}
 use Rattle.model.proofs.Trees.Items.{dir-item, file-item, unused-dirs, from-start}
-use Rattle.model.proofs.Trees.Keeps.{freed-gone, gone-not, gone-so, files-one, rows-same, body-kept}
+use Rattle.model.proofs.Trees.Keeps.{gone-not, gone-so, files-one, rows-same, body-kept}
 use Rattle.model.proofs.Trees.Slots.{same-tree, it-same, it-gone, it-there, dirs-put, files-keep, files-map}
 use Rattle.model.proofs.Calls.Checks.{pass-not}
 

@@ -19,10 +19,10 @@ use Rattle.model.specs.Sound.{Shaped, Live, Sound}
 use Rattle.model.proofs.Store.Writes.{data-kept}
 use Rattle.model.proofs.Naming.Same.{within-deeper, within-up}
 use Rattle.model.proofs.Tables.Climbs.{Place, place-climbs, climb-live}
-use Rattle.model.proofs.Tables.Walks.{live-at, found, dir-out}
+use Rattle.model.proofs.Tables.Walks.{live-at, freed-gone, found, dir-out}
 use Rattle.model.proofs.Tables.Ways.{climb-kept, under-within}
 use Rattle.model.proofs.Trees.Items.{dir-item, file-item, from-start}
-use Rattle.model.proofs.Trees.Keeps.{freed-gone, gone-not, gone-so, kinds-two, rows-same, body-kept}
+use Rattle.model.proofs.Trees.Keeps.{gone-not, gone-so, kinds-two, rows-same, body-kept}
 use Rattle.model.proofs.Trees.Slots.{same-tree, it-same, it-gone, dirs-map, files-map}
 use Rattle.model.proofs.Calls.Checks.{pass-not}
 use Rattle.model.proofs.Calls.Cuts.{dirs-length, dirs-cut, files-length, files-cut}
