@@ -21,11 +21,10 @@ use Rattle.model.specs.Book.{Line, lines-of, insert, sorted, contents, bodies,
 use Rattle.model.specs.Sound.{Shaped, Sound, Live}
 use Rattle.model.specs.Volume.{named, starts, is-file, number-of, item-path, bytes-or-blank, body, dir-items, file-items-by, tree-by, tree-of, book-sectors, checks}
 use Rattle.model.proofs.Ready.{Ready}
-use Rattle.model.proofs.Steps.{facts-sound}
-use Rattle.model.proofs.Steps.Spelling.{spelt-names}
-use Rattle.model.proofs.Steps.Walks.{child-some, found, last-ok}
-use Rattle.model.proofs.Steps.Makes.{passed-not}
-use Rattle.model.proofs.Steps.Cuts.{is-file-out}
+use Rattle.model.proofs.Tables.{sound-facts, facts-sound}
+use Rattle.model.proofs.Tables.Rules.{held-from}
+use Rattle.model.proofs.Tables.Walks.{found, file-out}
+use Rattle.model.proofs.Calls.Checks.{pass-not}
 
 -- live sectors are read one after another ------------------------------------------------------------
 
@@ -205,14 +204,11 @@ row-legible i t shaped h f v =
 
 read-legible : (i : Image) (t : Tables) → Shaped t → sound i t ≡ true → (d : ℕ) (p b : List ℕ) → picked (checks t i (read d p b)) ≡ None → Legible (used (row t (number-of (named t d p)))) i
 read-legible i t shaped h d p b accepted =
-    let last-check = check (ltb (length b) (512 * length (used (row t (number-of (named t d p)))))) size ∷ [] in
-    let a = passed-not (spelt p) misspelt (check (not (starts t d)) start ∷ check (not (is-file (named t d p))) lost ∷ last-check) accepted in
-    let c = passed-not (starts t d) start (check (not (is-file (named t d p))) lost ∷ last-check) (a .1) in
-    let e = passed-not (is-file (named t d p)) lost last-check (c .1) in
-    let s = spelt-names p (a .0) in
-    let x = is-file-out (named t d p) (e .0) in
-    let f = found t d p s file (x .0) (x .1) in
-    let v = child-some (t .files) (f .above) (last (names p)) (x .0) (shaped .files-many) (last-ok p s) (f .below) .0 in
+    let a = pass-not (spelt p) misspelt _ accepted in
+    let c = pass-not (starts t d) start _ (a .1) in
+    let e = pass-not (is-file (named t d p)) lost _ (c .1) in
+    let x = file-out (named t d p) (e .0) in
+    let v = found i t shaped (sound-facts i t shaped h) d p file (x .0) (a .0) (held-from (t .dirs) d (c .0)) (x .1) .0 in
     subst (λ (j : ℕ). Legible (used (row t j)) i) (sym (ap number-of (x .1))) (row-legible i t shaped h (x .0) v)
 
 -- on a volume that is ready --------------------------------------------------------------------------------------

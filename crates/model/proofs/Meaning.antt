@@ -21,12 +21,11 @@ use Rattle.model.specs.Sound.{Shaped, Sound}
 use Rattle.model.specs.Tree.{is-some, raised, first}
 use Rattle.model.specs.Volume.{row, free-from, free-sectors, room-for, given, inspection, loaded-refusal, bytes-or-blank}
 use Rattle.model.specs.Meaning.{Lowest, Finds-lowest, Entries-lowest, Numbers-lowest, Free, Rising, LowestFree, Sectors-lowest, Layout-undone, Sound-told, Carries, Let-in}
-use Rattle.model.proofs.Lookups.{sound-facts}
-use Rattle.model.proofs.Lookups.Basics.{first-some, first-none, all-holds}
-use Rattle.model.proofs.Lookups.Facts.{data-range}
-use Rattle.model.proofs.Lookups.Counts.{look-length}
-use Rattle.model.proofs.Steps.{facts-sound}
-use Rattle.model.proofs.Steps.Loads.{Holds, load-holds, dirs-back, files-back, rows-again}
+use Rattle.model.proofs.Common.Searches.{first-some, first-none}
+use Rattle.model.proofs.Store.Bodies.{look-length}
+use Rattle.model.proofs.Tables.{sound-facts, facts-sound}
+use Rattle.model.proofs.Tables.Loads.{load-holds, dirs-back, files-back, rows-again}
+use Rattle.model.proofs.Tables.Rules.{data-range}
 
 clash : {A : Type 0} → _≡_ {A = Bool} true false → A
 clash e = absurd (let z : _≡_ {A = ℕ} 0 1 = cc in let w : ⊥ = omega arith in w)

@@ -1,0 +1,4 @@
+-- Names and paths: equality, order and spelling.
+pub mod Orders
+pub mod Same
+pub mod Spelling

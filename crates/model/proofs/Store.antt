@@ -1,0 +1,3 @@
+-- What reads and writes leave in a store.
+pub mod Bodies
+pub mod Writes
