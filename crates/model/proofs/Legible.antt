@@ -20,6 +20,7 @@ use Rattle.model.specs.Tree.{Tree, Numbered, Kind, directory, file}
 use Rattle.model.specs.Book.{Line, lines-of, insert, sorted, contents, bodies, last}
 use Rattle.model.specs.Sound.{Shaped, Sound, Live}
 use Rattle.model.specs.Volume.{named, starts, is-file, number-of, item-path, bytes-or-blank, body, dir-items, file-items-by, tree-by, tree-of, book-sectors, checks}
+use Rattle.model.proofs.Common.Tests.{implied}
 use Rattle.model.proofs.Ready.{Ready}
 use Rattle.model.proofs.Tables.{sound-facts, facts-sound}
 use Rattle.model.proofs.Tables.Rules.{held-from}
@@ -61,25 +62,10 @@ row-alive lives r h =
     let u = and-parts (leb 1 (length (used r)) && all (λ s. data-sector s && lives s) (used r)) (all (λ s. eqb s 0) (drop (length (used r)) r)) h in
     all-second data-sector lives (used r) (and-parts (leb 1 (length (used r))) (all (λ s. data-sector s && lives s) (used r)) (u .0) .1)
 
-live-row : (b c : Bool) → b ≡ true → (not b || c) ≡ true → c ≡ true
-live-row true c e h = h
-live-row false c e h = absurd (let z : _≡_ {A = ℕ} 0 1 = cc in let w : ⊥ = omega arith in w)
-
-rows-alive : (lives : ℕ → Bool) (es : List Entry) (rs : List (List ℕ)) → proper-rows lives es rs ≡ true → all lives (live-places es rs) ≡ true
-rows-alive lives [] rs h = refl
-rows-alive lives (e ∷ es) [] h = refl
-rows-alive lives (e ∷ es) (r ∷ rs) h =
-    let u = and-parts (not (live e) || proper-row lives r) (proper-rows lives es rs) h in
-    go (live e) refl (u .0) (rows-alive lives es rs (u .1))
-  where
-    go : (b : Bool) → live e ≡ b → (not b || proper-row lives r) ≡ true → all lives (live-places es rs) ≡ true → all lives (cond b (used r ++ live-places es rs) (live-places es rs)) ≡ true
-    go true v p rest = all-join lives (used r) (live-places es rs) (row-alive lives r p) rest
-    go false v p rest = rest
-
 proper-at : (lives : ℕ → Bool) (es : List Entry) (rs : List (List ℕ)) (f : ℕ) → length es ≡ length rs → proper-rows lives es rs ≡ true → f < length es → live (getD es f no-entry) ≡ true → proper-row lives (getD rs f []) ≡ true
 proper-at lives [] rs f l h b v = absurd (omega arith)
 proper-at lives (e ∷ es) [] f l h b v = absurd (omega arith)
-proper-at lives (e ∷ es) (r ∷ rs) zero l h b v = live-row (live e) (proper-row lives r) v (and-parts (not (live e) || proper-row lives r) (proper-rows lives es rs) h .0)
+proper-at lives (e ∷ es) (r ∷ rs) zero l h b v = implied (live e) (proper-row lives r) v (and-parts (not (live e) || proper-row lives r) (proper-rows lives es rs) h .0)
 proper-at lives (e ∷ es) (r ∷ rs) (suc f) l h b v = proper-at lives es rs f (omega arith) (and-parts (not (live e) || proper-row lives r) (proper-rows lives es rs) h .1) (omega arith) v
 
 sound-rows : (i : Image) (t : Tables) → sound i t ≡ true → proper-rows (alive i) (t .files) (t .rows) ≡ true

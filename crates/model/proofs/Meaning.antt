@@ -1,7 +1,7 @@
 -- A search finds the lowest, a file gets the lowest free sectors, layout and reading undo each other, and the test of
 -- soundness is the five rules.
 use mathlib.Core.Path.{_≡_, refl, sym, ap, ap₂, subst, _∙_}
-use mathlib.Core.Logic.{_↔_}
+use mathlib.Core.Logic.{_↔_, _⊎_, inl, inr}
 use mathlib.Core.Bool.{Bool, true, false, cond, not, _&&_}
 use mathlib.Core.List.{List, [], _∷_, _++_, map}
 use Prim.Native.Nat.{ℕ, zero, suc, _+_, _-_, _*_, _/_, _<_, _≤_}
@@ -16,14 +16,16 @@ use Rattle.std.specs.declared.result.Result.{Result}
 use Rattle.std.specs.declared.result.Result.the-variants.{Ok, Err}
 use Rattle.model.specs.Image.{Image, Sector, bytes, dead, Fault, past-end-at, seen, look, is-ok, all, whole-sector, whole}
 use Rattle.model.specs.Refusals.{Refusal, small, unsound}
-use Rattle.model.specs.Tables.{Tables, Entry, no-entry, live, data-sector, parts, entry, entries, entries-bytes, rows-bytes, tables, load, sound}
+use Rattle.model.specs.Tables.{Tables, Entry, no-entry, live, data-sector, parts, entry, entries, entries-bytes, rows-bytes, tables, load, root, climbs, sound}
 use Rattle.model.specs.Sound.{Shaped, Sound}
 use Rattle.model.specs.Tree.{is-some, raised, first}
 use Rattle.model.specs.Volume.{row, free-from, free-sectors, room-for, given, inspection, loaded-refusal, bytes-or-blank}
-use Rattle.model.specs.Meaning.{Lowest, Finds-lowest, Entries-lowest, Numbers-lowest, Free, Rising, LowestFree, Sectors-lowest, Layout-undone, Sound-told, Carries, Let-in}
+use Rattle.model.specs.Meaning.{Lowest, Finds-lowest, Entries-lowest, Numbers-lowest, Free, Rising, LowestFree, Sectors-lowest, Layout-undone, Sound-told, Way-up, Rooted-told, Carries, Let-in}
 use Rattle.model.proofs.Common.Searches.{first-some, first-none}
 use Rattle.model.proofs.Store.Bodies.{look-length}
 use Rattle.model.proofs.Tables.{sound-facts, facts-sound}
+use Rattle.model.proofs.Tables.Chains.{climbs-within}
+use Rattle.model.proofs.Tables.Climbs.{up, Step, climbs-cases, climbs-more}
 use Rattle.model.proofs.Tables.Loads.{load-holds, dirs-back, files-back, rows-again}
 use Rattle.model.proofs.Tables.Rules.{data-range}
 
@@ -240,6 +242,22 @@ layout-undone =
 
 pub sound-told : Sound-told
 sound-told i t s = (sound-facts i t s, facts-sound i t s)
+
+-- the way up is climbed step by step
+climbed : (ds : List Entry) (n d : ℕ) → climbs ds n d ≡ true → (es : List ℕ) × Way-up ds d es
+climbed ds zero d h = ([], eqb-true d root h)
+climbed ds (suc n) d h = go (climbs-cases ds n d h) (λ x k. climbed ds n x k)
+  where
+    go : Step ds n d → ((x : ℕ) → climbs ds n x ≡ true → (es : List ℕ) × Way-up ds x es) → (es : List ℕ) × Way-up ds d es
+    go (inl e) ih = ([], e)
+    go (inr r) ih = let w = ih (up ds d) (r .2) in (d ∷ w .0, (refl, r .1, w .1))
+
+climbs-way : (ds : List Entry) (es : List ℕ) (d : ℕ) → Way-up ds d es → climbs ds (length es) d ≡ true
+climbs-way ds [] d w = eq-eqb d root w
+climbs-way ds (e ∷ es) d w = climbs-more ds (length es) d (w .1) (climbs-way ds es (up ds d) (w .2))
+
+pub rooted-told : Rooted-told
+rooted-told ds d = (climbed ds 32 d, λ w. climbs-within ds (length (w .0)) d 32 (omega arith) (climbs-way ds (w .0) d (w .1)))
 
 read-length : (i : Image) (s : ℕ) (b : List ℕ) → whole i ≡ true → look i s ≡ Ok b → length b ≡ 512
 read-length i s b w e = sym (ap (λ (x : Result (List ℕ) Fault). length (bytes-or-blank x)) e) ∙ look-length i s w (ap is-ok e)

@@ -3,18 +3,18 @@
 use mathlib.Core.Path.{_≡_}
 use mathlib.Core.Logic.{_↔_}
 use mathlib.Core.Bool.{Bool, true, false, not}
-use mathlib.Core.List.{List}
+use mathlib.Core.List.{List, [], _∷_}
 use Prim.Native.Nat.{ℕ, _/_, _<_, _≤_}
 use lib.ListN.{length, getD}
 use Rattle.std.specs.declared.option.Option.{Option}
 use Rattle.std.specs.declared.option.Option.the-variants.{Some, None}
 use Rattle.std.specs.declared.result.Result.{Result}
 use Rattle.std.specs.declared.result.Result.the-variants.{Ok}
-use Rattle.model.specs.Sizes.{sector-size, mark-free, least-sectors}
+use Rattle.model.specs.Sizes.{sector-size, mark-free, least-sectors, entry-count, root}
 use Rattle.model.specs.Image.{Image, Fault, whole}
 use Rattle.model.specs.Refusals.{Refusal}
-use Rattle.model.specs.Tables.{Tables, Entry, no-entry, live, data-sector, entries-bytes, rows-bytes, tables, load, sound}
-use Rattle.model.specs.Sound.{Shaped, Sound}
+use Rattle.model.specs.Tables.{Tables, Entry, no-entry, live, data-sector, entries-bytes, rows-bytes, tables, load, climbs, sound}
+use Rattle.model.specs.Sound.{Shaped, Sound, Live}
 use Rattle.model.specs.Tree.{Item, Numbered, is-some, first}
 use Rattle.model.specs.Volume.{free-sectors, room-for, given, inspection}
 
@@ -80,6 +80,15 @@ pub record Layout-undone : Type 0 where
 -- the test passes exactly where the five rules hold
 abbrev pub Sound-told : Type 0
 Sound-told = (i : Image) (t : Tables) → Shaped t → (sound i t ≡ true) ↔ Sound i t
+
+-- the directories of the way up from d: each is live, the next is its parent, and the last one's parent is the root
+abbrev pub Way-up : List Entry → ℕ → List ℕ → Type 0
+Way-up ds d [] = d ≡ root
+Way-up ds d (e ∷ es) = (d ≡ e) × Live ds d × Way-up ds (getD ds d no-entry .parent) es
+
+-- the parents lead to the root, however long the way, exactly where 32 steps tell so
+abbrev pub Rooted-told : Type 0
+Rooted-told = (ds : List Entry) (d : ℕ) → (climbs ds entry-count d ≡ true) ↔ ((es : List ℕ) × Way-up ds d es)
 
 -- what a store must be to be let in
 pub record Carries (i : Image) : Type 0 where
