@@ -4,6 +4,7 @@ pub mod layout;
 pub mod marks;
 pub mod names;
 pub mod rows;
+pub mod sizes;
 pub mod slots;
 pub mod soundness;
 pub mod types;
