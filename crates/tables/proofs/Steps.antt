@@ -42,15 +42,16 @@ module _ {A : Type 0} (f : A → Bool) (xs : List A) where
   pub first-none-yet : first f xs ≡ later 0 (first f (drop 0 xs))
   first-none-yet = later-zero (first f xs)
 
-  module _ (i : ℕ) (d : A) (l : i < length xs) (s : first f xs ≡ later i (first f (drop i xs))) where
-    at-place : first f xs ≡ later i (cond (f (getD xs i d)) (Some 0) (raised (first f (drop (i + 1) xs))))
-    at-place = s ∙ ap (later i) (at-drop-more (first f) xs i d l)
+  -- x stands at i, and none before it passes
+  module _ (i : ℕ) (x : A) (l : i < length xs) (e : x ≡ getD xs i x) (s : first f xs ≡ later i (first f (drop i xs))) where
+    at-place : first f xs ≡ later i (cond (f x) (Some 0) (raised (first f (drop (i + 1) xs))))
+    at-place = s ∙ ap (later i) (at-drop-more (first f) xs i x l) ∙ ap (λ y. later i (cond (f y) (Some 0) (raised (first f (drop (i + 1) xs))))) (sym e)
 
-    pub first-more : f (getD xs i d) ≡ false → first f xs ≡ later (i + 1) (first f (drop (i + 1) xs))
-    first-more h = at-place ∙ ap (λ b. later i (cond b (Some 0) (raised (first f (drop (i + 1) xs))))) h ∙ later-raised i (first f (drop (i + 1) xs))
+    pub first-more : false ≡ f x → first f xs ≡ later (i + 1) (first f (drop (i + 1) xs))
+    first-more h = at-place ∙ ap (λ b. later i (cond b (Some 0) (raised (first f (drop (i + 1) xs))))) (sym h) ∙ later-raised i (first f (drop (i + 1) xs))
 
-    pub first-here : f (getD xs i d) ≡ true → first f xs ≡ Some i
-    first-here h = at-place ∙ ap (λ b. later i (cond b (Some 0) (raised (first f (drop (i + 1) xs))))) h ∙ (let e : i + 0 ≡ i = omega arith in ap Some e)
+    pub first-here : true ≡ f x → Some i ≡ first f xs
+    first-here h = sym (at-place ∙ ap (λ b. later i (cond b (Some 0) (raised (first f (drop (i + 1) xs))))) (sym h) ∙ (let n : i + 0 ≡ i = omega arith in ap Some n))
 
-  pub first-over : (i : ℕ) → length xs ≤ i → first f xs ≡ later i (first f (drop i xs)) → first f xs ≡ None
-  first-over i l s = s ∙ ap (later i) (at-drop-all (first f) xs i l)
+  pub first-over : (i : ℕ) → length xs ≤ i → first f xs ≡ later i (first f (drop i xs)) → None ≡ first f xs
+  first-over i l s = sym (s ∙ ap (later i) (at-drop-all (first f) xs i l))

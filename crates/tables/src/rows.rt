@@ -13,6 +13,16 @@ impl Row {
         places: [0; PLACES],
     };
 
+    // The row that sixteen bytes hold.
+    pub(crate) fn decode(bytes: &[u8]) -> Row
+        requires { ⌜ length (now bytes) ≡ 16 ⌝ }
+        ensures { λ r. ⌜ r .places ≡ now (bytes .entry) ⌝ }
+    {
+        let mut places = [0; PLACES];
+        places.copy_from_slice(bytes);
+        Row { places }
+    }
+
     // How many places are used: those before the first 0x00.
     pub fn count(&self) -> usize
         ensures { λ r. ⌜ r ≡ length (used (now (self .entry) .places)) ⌝ }
@@ -32,8 +42,8 @@ pub fn decode(sector: &[u8; SECTOR]) -> [Row; ENTRIES]
 {
     let mut all = [Row::EMPTY; ENTRIES];
     for (i, row) in all.iter_mut().enumerate() {
-        row.places
-            .copy_from_slice(&sector[PLACES * i..PLACES * (i + 1)]);
+        let at = PLACES * i;
+        *row = Row::decode(&sector[at..at + PLACES]);
     }
     all
 }
@@ -44,7 +54,8 @@ pub fn encode(all: &[Row; ENTRIES]) -> [u8; SECTOR]
 {
     let mut sector = [0; SECTOR];
     for (i, row) in all.iter().enumerate() {
-        sector[PLACES * i..PLACES * (i + 1)].copy_from_slice(&row.places);
+        let at = PLACES * i;
+        sector[at..at + PLACES].copy_from_slice(&row.places);
     }
     sector
 }
