@@ -3,6 +3,7 @@ pub mod entries;
 pub mod layout;
 pub mod marks;
 pub mod names;
+pub mod paths;
 pub mod rows;
 pub mod sizes;
 pub mod slots;

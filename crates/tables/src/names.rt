@@ -4,13 +4,14 @@ ghost use Rattle.model.specs.Names.{proper-byte, proper-name, before};
 ghost use Rattle.model.specs.Tables.{trimmed, well-named};
 ghost use Rattle.tables.specs.Views.{entry-view};
 use crate::sizes::NAME;
+use crate::sizes::SLASH;
 use crate::types::Entry;
 
 // 0x21 to 0x7E, without the slash.
 pub fn is_proper_byte(b: u8) -> bool
     ensures { λ r. ⌜ r ≡ proper-byte b ⌝ }
 {
-    b >= 0x21 && b <= 0x7e && b != b'/'
+    b >= 0x21 && b <= 0x7e && b != SLASH
 }
 
 // 1 to 15 proper bytes.

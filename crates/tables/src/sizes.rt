@@ -22,3 +22,6 @@ pub const LAST_DATA: u8 = 0xff;
 
 // The root as a parent and as a start.
 pub const ROOT: u8 = 0xff;
+
+// The byte between the names of a path.
+pub const SLASH: u8 = 0x2f;
