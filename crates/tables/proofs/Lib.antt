@@ -1,0 +1,5 @@
+pub mod Steps
+pub mod Blanks
+pub mod Pieces
+pub mod Cuts
+pub mod Spellings
