@@ -1,2 +1,4 @@
 pub mod Tabled
 pub mod Stretches
+pub mod Laid
+pub mod Flats

@@ -77,6 +77,13 @@ filled-at i s buffer r e = ap (λ x. bytes-or x buffer) e
 pub put-at : (i : Image) (s : ℕ) (new : List ℕ) (r : Result (List ℕ) Fault) → look i s ≡ r → put i s new ≡ stored r i s new
 put-at i s new r e = ap (λ x. stored x i s new) e
 
+pub length-put : (i : Image) (s : ℕ) (new : List ℕ) → length (put i s new) ≡ length i
+length-put i s new = go (look i s)
+  where
+    go : (r : Result (List ℕ) Fault) → length (stored r i s new) ≡ length i
+    go (Ok old) = length-set i s (bytes new)
+    go (Err f) = refl
+
 -- a sector of a whole image is whole
 pub getD-whole : (i : Image) (s : ℕ) → whole i ≡ true → whole-sector (getD i s (dead 0 0)) ≡ true
 getD-whole i s w = go i s (and-parts (leb (length i) most-sectors) (all whole-sector i) w .1)

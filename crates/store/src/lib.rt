@@ -14,6 +14,7 @@ pub const SECTOR: usize = 512;
 
 // The most sectors that a store has, and the most dead numbers or pairs that one is told of.
 pub const MOST_SECTORS: usize = 65_535;
+
 pub const MOST_LISTED: usize = 8;
 
 // A store means an image: a list of sectors, each 512 bytes or dead with its place and depth. What a call answers, and
