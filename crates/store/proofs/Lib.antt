@@ -2,3 +2,4 @@ pub mod Tabled
 pub mod Stretches
 pub mod Laid
 pub mod Flats
+pub mod Pairs

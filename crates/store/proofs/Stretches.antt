@@ -27,6 +27,10 @@ count-most n buffer h = go (length buffer) (leb-true (length buffer) (512 * n) (
 pub room-for : (m s : ℕ) → s < m / 512 → 512 * s + 512 ≤ m
 room-for m s l = omega arith
 
+-- the same of a slice of the buffer's bytes, at a place of the same value
+pub room-at : (was buffer : List ℕ) (k s : ℕ) → was ≡ buffer → k ≡ s → 512 * s + 512 ≤ length buffer → 512 * k + 512 ≤ length was
+room-at was buffer k s e q l = subst (λ xs. 512 * k + 512 ≤ length xs) (sym e) (subst (λ n. 512 * n + 512 ≤ length buffer) (sym q) l)
+
 pub length-stretch : (buffer : List ℕ) (s : ℕ) → 512 * s + 512 ≤ length buffer → length (stretch buffer s) ≡ 512
 length-stretch buffer s l =
     length-take-le 512 (drop (512 * s) buffer) (subst (λ m. 512 ≤ m) (sym (length-drop (512 * s) buffer)) (go (length buffer) l))

@@ -7,6 +7,7 @@ use model::types::Fault;
 
 mod faults;
 pub mod flat;
+pub mod pair;
 mod stretch;
 
 // The bytes of a sector.

@@ -43,7 +43,8 @@ impl Flat {
 
     // Hands the buffer back, with the bytes that the store kept its sectors in.
     pub fn into_buffer(self) -> Vec<u8>
-        ensures { λ r. ⌜ flat-of self ≡ flat-image (vec-items r) (vec-items (self .dead)) ⌝ }
+        ensures bytes { λ r. ⌜ vec-items r ≡ vec-items (self .buffer) ⌝ }
+        ensures image { λ r. ⌜ flat-of self ≡ flat-image (vec-items r) (vec-items (self .dead)) ⌝ }
     {
         let Flat { buffer, .. } = self;
         buffer

@@ -1,20 +1,18 @@
-use mathlib.Core.Path.{_≡_, refl, sym, ap, ap₂, subst, _∙_}
-use Prim.Native.Nat.{_+_, _*_, _≤_}
-use lib.ListN.{length}
+use mathlib.Core.Path.{refl, sym, ap₂, _∙_}
 use Rattle.std.specs.Of.Vec.{vec-items}
 use Rattle.std.specs.declared.result.Result.the-variants.{Ok}
 use Rattle.store.specs.Stores.{stretch}
 use Rattle.store.specs.Bottoms.{flat-of}
 use Rattle.store.proofs.Flats.{flat-room, flat-seen}
+use Rattle.store.proofs.Stretches.{room-at}
 use Rattle.store.proofs.Tabled.{filled-at}
 use Rattle.store.proofs.flat.serving.FlatStore.read.Needs as need
 
 pub copy-out-requires : need.copy-out-requires
 copy-out-requires c κs =
     let s = c .args .self .now in
-    let room : 512 * c .args .sector + 512 ≤ length (vec-items (s .buffer)) = flat-room (vec-items (s .buffer)) (vec-items (s .dead)) (c .args .sector) (sym (c .in-Continue-check .ensures tt)) in
-    subst (λ xs. 512 * c .from .result + 512 ≤ length xs) (sym (c .deref .ensures .value))
-    (subst (λ n. 512 * n + 512 ≤ length (vec-items (s .buffer))) (sym (c .from .ensures)) room)
+    let room = flat-room (vec-items (s .buffer)) (vec-items (s .dead)) (c .args .sector) (sym (c .in-Continue-check .ensures tt)) in
+    room-at (c .deref .result .now) (vec-items (s .buffer)) (c .from .result) (c .args .sector) (c .deref .ensures .value) (c .from .ensures) room
 
 pub returns : need.returns
 returns c =

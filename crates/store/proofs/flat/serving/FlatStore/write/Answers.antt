@@ -1,5 +1,4 @@
-use mathlib.Core.Path.{_≡_, sym, ap, subst, _∙_}
-use Prim.Native.Nat.{_+_, _*_, _≤_}
+use mathlib.Core.Path.{_≡_, sym, ap, _∙_}
 use lib.ListN.{length}
 use Rattle.std.specs.Changed.{refilled}
 use Rattle.std.specs.Of.Vec.{vec-items}
@@ -7,7 +6,7 @@ use Rattle.model.specs.Image.{put}
 use Rattle.store.specs.Bottoms.{flat-of}
 use Rattle.store.specs.Stores.{flat-image}
 use Rattle.store.proofs.Flats.{flat-room, flat-put}
-use Rattle.store.proofs.Stretches.{copied}
+use Rattle.store.proofs.Stretches.{room-at, copied}
 use Rattle.store.proofs.Tabled.{length-put}
 use Rattle.store.proofs.flat.serving.FlatStore.write.Needs as need
 use Rattle.store.proofs.flat.serving.FlatStore.write.Needs.{After-copy-in}
@@ -15,9 +14,8 @@ use Rattle.store.proofs.flat.serving.FlatStore.write.Needs.{After-copy-in}
 pub copy-in-requires : need.copy-in-requires
 copy-in-requires c κs =
     let s = c .args .self .now in
-    let room : 512 * c .args .sector + 512 ≤ length (vec-items (s .buffer)) = flat-room (vec-items (s .buffer)) (vec-items (s .dead)) (c .args .sector) (sym (c .in-Continue-check .ensures tt)) in
-    subst (λ xs. 512 * c .from .result + 512 ≤ length xs) (sym (c .deref-mut .ensures .value))
-    (subst (λ n. 512 * n + 512 ≤ length (vec-items (s .buffer))) (sym (c .from .ensures)) room)
+    let room = flat-room (vec-items (s .buffer)) (vec-items (s .dead)) (c .args .sector) (sym (c .in-Continue-check .ensures tt)) in
+    room-at (c .deref-mut .result .now) (vec-items (s .buffer)) (c .from .result) (c .args .sector) (c .deref-mut .ensures .value) (c .from .ensures) room
 
 written : (c : After-copy-in) → flat-image (vec-items (refilled (c .args .self .now .buffer) (c .copy-in .last .target))) (vec-items (c .args .self .now .dead)) ≡ put (flat-of (c .args .self .now)) (c .args .sector) (c .args .bytes .now)
 written c =
