@@ -3,3 +3,4 @@ pub mod Stretches
 pub mod Laid
 pub mod Flats
 pub mod Pairs
+pub mod Shorts

@@ -8,6 +8,7 @@ use model::types::Fault;
 mod faults;
 pub mod flat;
 pub mod pair;
+pub mod short;
 mod stretch;
 
 // The bytes of a sector.
