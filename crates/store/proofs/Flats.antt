@@ -1,5 +1,5 @@
 -- The flat store: what stands at a sector, and what a write to its stretch makes of the image.
-use mathlib.Core.Path.{_≡_, refl, sym, ap, subst, _∙_}
+use mathlib.Core.Path.{_≡_, refl, sym, ap, _∙_}
 use mathlib.Core.Logic.{_⊎_, inl, inr}
 use mathlib.Core.Bool.{Bool, true, false, cond, _&&_}
 use mathlib.Core.List.{List}
@@ -7,13 +7,12 @@ use Prim.Native.Nat.{ℕ, _+_, _*_, _/_, _%_, _≤_, _<_}
 use lib.Dec.{eqb, leb}
 use lib.ListN.{length}
 use Rattle.std.proofs.shelf.Elements.{has-from-contains}
-use Rattle.std.proofs.shelf.Tests.{and-parts, eq-eqb, cases-bool, cond-true, cond-false}
+use Rattle.std.proofs.shelf.Tests.{and-parts, eq-eqb, cases-bool}
 use Rattle.std.proofs.shelf.Ways.{same-from-decides, decides-eqb, decides-like, decides-by-or}
 use Rattle.std.specs.Orderings.{Decides}
 use Rattle.std.specs.Places.{Some-of}
 use Rattle.std.specs.declared.result.Result.{Result}
 use Rattle.std.specs.declared.result.Result.the-variants.{Ok, Err}
-use Rattle.model.specs.declared.types.Fault.{Fault}
 use Rattle.model.specs.declared.types.Refusal.{Refusal}
 use Rattle.model.specs.Sizes.{most-sectors}
 use Rattle.model.specs.Image.{Image, Sector, bytes, dead, from-to, whole-sector, whole, dead-at, seen, look, done-or-fault, access, put}

@@ -1,7 +1,7 @@
 -- A table that is laid: the image where the buffers fit, and no sector where they do not.
-use mathlib.Core.Path.{_≡_, refl, sym, ap, subst, _∙_}
+use mathlib.Core.Path.{_≡_, refl, sym, subst, _∙_}
 use mathlib.Core.Logic.{_⊎_, inl, inr}
-use mathlib.Core.Bool.{Bool, true, false, cond}
+use mathlib.Core.Bool.{Bool, true, false}
 use mathlib.Core.List.{List}
 use Prim.Native.Nat.{ℕ, _≤_, _<_}
 use native.Mathlib.Omega.{arith}
@@ -12,13 +12,9 @@ use Rattle.std.specs.declared.result.Result.the-variants.{Ok, Err}
 use Rattle.model.specs.declared.types.Fault.{Fault}
 use Rattle.model.specs.declared.types.Refusal.{Refusal}
 use Rattle.model.specs.Sizes.{most-sectors}
-use Rattle.model.specs.Image.{Image, Sector, bytes, from-to, whole-sector, whole, past-end-at, seen, look, done-or-fault, access, filled, put}
+use Rattle.model.specs.Image.{Image, Sector, bytes, from-to, whole-sector, whole, past-end-at, seen, look, access, put}
 use Rattle.store.specs.Stores.{fit-answer, laid}
-use Rattle.store.proofs.Tabled.{length-table, whole-table, look-table, look-outside, put-table, access-at, filled-at}
-
-pub length-laid : (b : Bool) (n : ℕ) (f : ℕ → Sector) → length (laid b (from-to 0 n f)) ≡ cond b n 0
-length-laid true n f = length-table n f
-length-laid false n f = refl
+use Rattle.store.proofs.Tabled.{length-table, whole-table, look-table, look-outside, put-table, access-at}
 
 -- the size, by what the question whether it fits was answered
 pub length-fit : (b : Bool) (n : ℕ) (f : ℕ → Sector) (u : Unit {0}) → _≡_ {A = Result (Unit {0}) Refusal} (Ok u) (fit-answer b) → length (laid b (from-to 0 n f)) ≡ n
@@ -46,14 +42,7 @@ pub put-laid : (b : Bool) (n : ℕ) (f g : ℕ → Sector) (s : ℕ) (old new : 
 put-laid true n f g s old new l p q r = put-table n f g s old new (inside-laid true n f s l .1) p q r
 put-laid false n f g s old new l p q r = absurd (omega arith)
 
--- an answer tells what stands there
-pub look-refused : (i : Image) (s : ℕ) (f : Fault) → access i s ≡ Err f → look i s ≡ Err f
-look-refused i s f h = go (look i s) h
-  where
-    go : (r : Result (List ℕ) Fault) → done-or-fault r ≡ Err f → r ≡ Err f
-    go (Ok b) k = let z : _≡_ {A = ℕ} 0 1 = cc in cc
-    go (Err g) k = let e : g ≡ f = cc in ap Err e
-
+-- an accepted sector stands in the image
 pub not-dead : (f : Fault) → _≡_ {A = Result (Unit {0}) Fault} (Err f) (Ok tt) → ⊥
 not-dead f e = let z : _≡_ {A = ℕ} 0 1 = cc in omega arith
 

@@ -11,7 +11,7 @@ use Rattle.std.specs.declared.result.Result.{Result}
 use Rattle.std.specs.declared.result.Result.the-variants.{Ok, Err}
 use Rattle.model.specs.declared.types.Refusal.{Refusal}
 use Rattle.model.specs.Sizes.{most-sectors}
-use Rattle.model.specs.Image.{Image, Sector, bytes, from-to, whole-sector, whole, seen, look, put}
+use Rattle.model.specs.Image.{Image, Sector, bytes, from-to, whole-sector, whole, look, put}
 use Rattle.store.specs.Stores.{fit-answer, laid, whole-sectors, stretch, most-of-pair, pair-fits, pair-sector, pair-image}
 use Rattle.store.proofs.Laid.{length-fit, length-misfit, whole-laid, inside-laid, look-laid, put-laid}
 use Rattle.store.proofs.Stretches.{count-most, room-for, length-stretch, Copied}

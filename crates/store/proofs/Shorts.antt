@@ -1,16 +1,15 @@
 -- The short store: what stands at a sector, and what a write to its stretch makes of the image.
 use mathlib.Core.Path.{_≡_, refl, sym, ap, subst, _∙_}
 use mathlib.Core.Logic.{_⊎_, inl, inr}
-use mathlib.Core.Bool.{Bool, true, false, cond, _||_}
+use mathlib.Core.Bool.{Bool, true, false, cond}
 use mathlib.Core.List.{List}
 use Prim.Native.Nat.{ℕ, _+_, _-_, _*_, _≤_, _<_}
 use native.Mathlib.Omega.{arith}
 use lib.Dec.{eqb, ltb, leb}
 use lib.ListN.{length}
-use Rattle.std.proofs.shelf.Tests.{eqb-true, eq-eqb, ltb-true, ltb-false, leb-true, lt-ltb, le-ltb, le-leb, lt-leb, or-cases, or-left, or-right, or-from, cases-bool}
+use Rattle.std.proofs.shelf.Tests.{eqb-true, eq-eqb, ltb-true, leb-true, lt-ltb, le-ltb, le-leb, lt-leb, or-cases, or-left, or-right, or-from, cases-bool}
 use Rattle.std.specs.declared.result.Result.{Result}
 use Rattle.std.specs.declared.result.Result.the-variants.{Ok, Err}
-use Rattle.model.specs.declared.types.Fault.{Fault}
 use Rattle.model.specs.declared.types.Refusal.{Refusal}
 use Rattle.model.specs.Sizes.{most-sectors}
 use Rattle.model.specs.Image.{Image, Sector, bytes, dead, from-to, whole-sector, whole, dead-at, seen, look, done-or-fault, access, put}

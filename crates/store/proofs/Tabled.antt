@@ -1,19 +1,18 @@
 -- Images that are a table of a function, from-to 0 n f: what stands at a sector, and what a write there leaves.
 use mathlib.Core.Path.{_≡_, refl, sym, ap, ap₂, _∙_}
-use mathlib.Core.Logic.{_⊎_, inl, inr}
-use mathlib.Core.Bool.{Bool, true, false, cond}
+use mathlib.Core.Bool.{Bool, true, cond}
 use mathlib.Core.List.{List, [], _∷_}
 use Prim.Native.Nat.{ℕ, zero, suc, _+_, _≤_, _<_}
 use native.Mathlib.Omega.{arith}
 use lib.Dec.{ltb, leb}
 use lib.ListN.{length, getD, set}
 use Rattle.std.proofs.shelf.Lists.{length-set}
-use Rattle.std.proofs.shelf.Tests.{lt-ltb, le-ltb, le-leb, leb-true, and-from, and-parts, cases-lt}
+use Rattle.std.proofs.shelf.Tests.{lt-ltb, le-ltb, le-leb, leb-true, and-from, and-parts}
 use Rattle.std.specs.declared.result.Result.{Result}
 use Rattle.std.specs.declared.result.Result.the-variants.{Ok, Err}
 use Rattle.model.specs.declared.types.Fault.{Fault}
 use Rattle.model.specs.Sizes.{most-sectors}
-use Rattle.model.specs.Image.{Image, Sector, bytes, dead, all, from-to, whole-sector, whole, past-end-at, dead-at, seen, look, done-or-fault, access, bytes-or, filled, stored, put}
+use Rattle.model.specs.Image.{Image, Sector, bytes, dead, all, from-to, whole-sector, whole, past-end-at, seen, look, done-or-fault, access, bytes-or, filled, stored, put}
 
 -- the list itself ---------------------------------------------------------------------------------------
 

@@ -2,16 +2,15 @@
 ghost use mathlib.Core.Path.{_≡_};
 ghost use Prim.Native.Nat.{ℕ, _+_, _*_, _≤_};
 ghost use lib.ListN.{length};
-ghost use Rattle.model.specs.Sizes.{sector-size, most-sectors};
+ghost use Rattle.model.specs.Sizes.{sector-size};
 ghost use Rattle.store.specs.Stores.{stretch, whole-sectors};
 use crate::SECTOR;
 
 // Whether the buffer is whole sectors, `most` of them at most.
 pub(crate) fn whole(buffer: &[u8], most: usize) -> bool
-    requires { ⌜ most ≤ most-sectors ⌝ }
     ensures { λ r. ⌜ r ≡ whole-sectors most (now (buffer .entry)) ⌝ }
 {
-    buffer.len() % SECTOR == 0 && buffer.len() <= SECTOR * most
+    buffer.len() % SECTOR == 0 && buffer.len() / SECTOR <= most
 }
 
 // Copies the k-th stretch of `source` out.
