@@ -10,6 +10,8 @@ pub mod flat;
 pub mod pair;
 pub mod short;
 mod stretch;
+#[cfg(test)]
+mod tests_bottoms;
 
 // The bytes of a sector.
 pub const SECTOR: usize = 512;
