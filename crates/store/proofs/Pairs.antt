@@ -11,9 +11,9 @@ use Rattle.std.specs.declared.result.Result.{Result}
 use Rattle.std.specs.declared.result.Result.the-variants.{Ok, Err}
 use Rattle.model.specs.declared.types.Refusal.{Refusal}
 use Rattle.model.specs.Sizes.{most-sectors}
-use Rattle.model.specs.Image.{Image, Sector, bytes, from-to, whole-sector, whole, look, put}
+use Rattle.model.specs.Image.{Image, Sector, bytes, from-to, whole-sector, whole, look, done-or-fault, access, put}
 use Rattle.store.specs.Stores.{fit-answer, laid, whole-sectors, stretch, most-of-pair, pair-fits, pair-sector, pair-image}
-use Rattle.store.proofs.Laid.{length-fit, length-misfit, whole-laid, inside-laid, look-laid, put-laid}
+use Rattle.store.proofs.Laid.{length-fit, length-misfit, whole-laid, inside-laid, look-laid, put-laid, inside-accepted}
 use Rattle.store.proofs.Stretches.{count-most, room-for, length-stretch, Copied}
 
 -- an image of two buffers, by their lengths
@@ -82,12 +82,22 @@ module _ (even odd : List ℕ) where
           let b = eqb (s % 2) 0 in
           eq-eqb (length (stretch (half b even odd) (s / 2))) 512 (length-stretch (half b even odd) (s / 2) (room b s h l))
 
-  module _ (s : ℕ) (inside : s < length (pair-image even odd)) where
+  pair-look : (s : ℕ) (b : Bool) → s < length (pair-image even odd) → eqb (s % 2) 0 ≡ b → look (pair-image even odd) s ≡ Ok (stretch (half b even odd) (s / 2))
+  pair-look s b l e = look-laid (pair-fits even odd) count (pair-sector even odd) s l ∙ ap (λ x. Ok (stretch (half x even odd) (s / 2))) e
+
+  pub pair-live : (s : ℕ) → s < length (pair-image even odd) → access (pair-image even odd) s ≡ Ok tt
+  pair-live s l = ap done-or-fault (pair-look s (eqb (s % 2) 0) l refl)
+
+  -- an accepted sector has room in its buffer, and its stretch stands there
+  module _ (s : ℕ) (h : access (pair-image even odd) s ≡ Ok tt) where
+    inside : s < length (pair-image even odd)
+    inside = inside-accepted (pair-image even odd) s h
+
     pub pair-room : (b : Bool) → 512 * (s / 2) + 512 ≤ length (half b even odd)
     pair-room b = let within = inside-laid (pair-fits even odd) count (pair-sector even odd) s inside in room b s (within .0) (within .1)
 
     pub pair-seen : (b : Bool) → eqb (s % 2) 0 ≡ b → look (pair-image even odd) s ≡ Ok (stretch (half b even odd) (s / 2))
-    pair-seen b e = look-laid (pair-fits even odd) count (pair-sector even odd) s inside ∙ ap (λ x. Ok (stretch (half x even odd) (s / 2))) e
+    pair-seen b e = pair-look s b inside e
 
     -- `after` takes the place of the buffer that the sector lies in
     pub pair-put : (b : Bool) (after new : List ℕ) → eqb (s % 2) 0 ≡ b → Copied (half b even odd) (s / 2) new after → pair-image (cond b after even) (cond b odd after) ≡ put (pair-image even odd) s new

@@ -1,6 +1,8 @@
 // The flat store at work.
 ghost use mathlib.Core.Path.{_≡_};
 ghost use Rattle.std.specs.Of.Vec.{vec-items};
+ghost use Rattle.std.specs.Results.{Cases};
+ghost use Rattle.std.specs.declared.result.Result.the-variants.{Ok, Err};
 ghost use Rattle.model.specs.Image.{access};
 ghost use Rattle.store.specs.Bottoms.{flat-of};
 ghost use Rattle.store.specs.Stores.{fit-answer, flat-fits, flat-image};
@@ -50,17 +52,17 @@ impl Flat {
         buffer
     }
 
-    // What a read and a write of the sector answer.
-    fn check(&self, sector: u16) -> Result<(), Fault>
-        ensures { λ r. ⌜ r ≡ access (flat-of (now (self .entry))) sector ⌝ }
+    // Which stretch of the buffer the sector lies in, or the fault that a read and a write of it meet.
+    fn place(&self, sector: u16) -> Result<usize, Fault>
+        ensures { λ r. ⌜ Cases r (λ k. (k ≡ sector) × (access (flat-of (now (self .entry))) sector ≡ Ok tt)) (λ f. access (flat-of (now (self .entry))) sector ≡ Err f) ⌝ }
     {
-        if sector >= self.sectors {
-            return Err(faults::past_end(sector));
+        if sector >= self.size() {
+            Err(faults::past_end(sector))
+        } else if self.dead.contains(&sector) {
+            Err(faults::dead_here(sector))
+        } else {
+            Ok(usize::from(sector))
         }
-        if self.dead.contains(&sector) {
-            return Err(faults::dead_here(sector));
-        }
-        Ok(())
     }
 }
 
@@ -72,14 +74,14 @@ pub impl Store for Flat as FlatStore {
     }
 
     fn read(&mut self, sector: u16, buffer: &mut [u8; SECTOR]) -> Result<(), Fault> {
-        self.check(sector)?;
-        stretch::copy_out(&self.buffer, usize::from(sector), buffer);
+        let k = self.place(sector)?;
+        stretch::copy_out(&self.buffer, k, buffer);
         Ok(())
     }
 
     fn write(&mut self, sector: u16, bytes: &[u8; SECTOR]) -> Result<(), Fault> {
-        self.check(sector)?;
-        stretch::copy_in(&mut self.buffer, usize::from(sector), bytes);
+        let k = self.place(sector)?;
+        stretch::copy_in(&mut self.buffer, k, bytes);
         Ok(())
     }
 }

@@ -1,6 +1,10 @@
 // The store of two buffers at work.
 ghost use mathlib.Core.Path.{_≡_};
+ghost use Prim.Native.Nat.{_/_};
 ghost use Rattle.std.specs.Of.Vec.{vec-items};
+ghost use Rattle.std.specs.Results.{Cases};
+ghost use Rattle.std.specs.declared.result.Result.the-variants.{Ok, Err};
+ghost use Rattle.model.specs.Image.{access};
 ghost use Rattle.store.specs.Bottoms.{pair-of};
 ghost use Rattle.store.specs.Stores.{fit-answer, pair-fits, pair-image};
 use super::Pair;
@@ -45,6 +49,17 @@ impl Pair {
         let Pair { even, odd, .. } = self;
         (even, odd)
     }
+
+    // Which stretch of its buffer the sector lies in, or the fault that a read and a write of it meet.
+    fn place(&self, sector: u16) -> Result<usize, Fault>
+        ensures { λ r. ⌜ Cases r (λ k. (k ≡ sector / 2) × (access (pair-of (now (self .entry))) sector ≡ Ok tt)) (λ f. access (pair-of (now (self .entry))) sector ≡ Err f) ⌝ }
+    {
+        if sector >= self.size() {
+            Err(faults::past_end(sector))
+        } else {
+            Ok(usize::from(sector / 2))
+        }
+    }
 }
 
 pub impl Store for Pair as PairStore {
@@ -55,10 +70,7 @@ pub impl Store for Pair as PairStore {
     }
 
     fn read(&mut self, sector: u16, buffer: &mut [u8; SECTOR]) -> Result<(), Fault> {
-        if sector >= self.sectors {
-            return Err(faults::past_end(sector));
-        }
-        let k = usize::from(sector / 2);
+        let k = self.place(sector)?;
         if sector % 2 == 0 {
             stretch::copy_out(&self.even, k, buffer);
         } else {
@@ -68,10 +80,7 @@ pub impl Store for Pair as PairStore {
     }
 
     fn write(&mut self, sector: u16, bytes: &[u8; SECTOR]) -> Result<(), Fault> {
-        if sector >= self.sectors {
-            return Err(faults::past_end(sector));
-        }
-        let k = usize::from(sector / 2);
+        let k = self.place(sector)?;
         if sector % 2 == 0 {
             stretch::copy_in(&mut self.even, k, bytes);
         } else {

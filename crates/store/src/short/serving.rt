@@ -60,7 +60,7 @@ impl Short {
     fn place(&self, sector: u16) -> Result<usize, Fault>
         ensures { λ r. ⌜ Cases r (λ k. (k ≡ short-place sector) × (access (short-of (now (self .entry))) sector ≡ Ok tt)) (λ f. access (short-of (now (self .entry))) sector ≡ Err f) ⌝ }
     {
-        if sector >= self.sectors {
+        if sector >= self.size() {
             Err(faults::past_end(sector))
         } else if sector < LOW {
             Ok(usize::from(sector))

@@ -14,14 +14,15 @@ use Rattle.store.proofs.flat.serving.FlatStore.write.Needs.{After-copy-in}
 pub copy-in-requires : need.copy-in-requires
 copy-in-requires c κs =
     let s = c .args .self .now in
-    let room = flat-room (vec-items (s .buffer)) (vec-items (s .dead)) (c .args .sector) (sym (c .in-Continue-check .ensures tt)) in
-    room-at (c .deref-mut .result .now) (vec-items (s .buffer)) (c .from .result) (c .args .sector) (c .deref-mut .ensures .value) (c .from .ensures) room
+    let found = c .in-Continue-k .ensures tt in
+    room-at (c .deref-mut .result .now) (vec-items (s .buffer)) (c .in-Continue-k .k) (c .args .sector) (c .deref-mut .ensures .value) (found .0) (flat-room (vec-items (s .buffer)) (vec-items (s .dead)) (c .args .sector) (found .1))
 
 written : (c : After-copy-in) → flat-image (vec-items (refilled (c .args .self .now .buffer) (c .copy-in .last .target))) (vec-items (c .args .self .now .dead)) ≡ put (flat-of (c .args .self .now)) (c .args .sector) (c .args .bytes .now)
 written c =
     let s = c .args .self .now in
-    let change = copied (s .buffer) (c .deref-mut .result .now) (c .copy-in .last .target) (c .args .bytes .now) (c .from .result) (c .args .sector) (c .deref-mut .ensures .value) (c .copy-in .kept .target) (c .from .ensures) (c .copy-in .ensures .here) (c .copy-in .ensures .elsewhere) in
-    flat-put (vec-items (s .buffer)) (vec-items (s .dead)) (c .args .sector) (sym (c .in-Continue-check .ensures tt)) (vec-items (refilled (s .buffer) (c .copy-in .last .target))) (c .args .bytes .now) change
+    let found = c .in-Continue-k .ensures tt in
+    let change = copied (s .buffer) (c .deref-mut .result .now) (c .copy-in .last .target) (c .args .bytes .now) (c .in-Continue-k .k) (c .args .sector) (c .deref-mut .ensures .value) (c .copy-in .kept .target) (found .0) (c .copy-in .ensures .here) (c .copy-in .ensures .elsewhere) in
+    flat-put (vec-items (s .buffer)) (vec-items (s .dead)) (c .args .sector) (found .1) (vec-items (refilled (s .buffer) (c .copy-in .last .target))) (c .args .bytes .now) change
 
 pub ghost-self : need.ghost-self
 ghost-self c =
@@ -29,4 +30,4 @@ ghost-self c =
     (s .sized ∙ sym (ap length (written (need.at·ghost-self c .After-copy-in)) ∙ length-put (flat-of s) (c .args .sector) (c .args .bytes .now)), tt)
 
 pub returns : need.returns
-returns c = record { answer = c .in-Continue-check .ensures tt; image = written (need.at·returns c .After-copy-in) }
+returns c = record { answer = sym (c .in-Continue-k .ensures tt .1); image = written (need.at·returns c .After-copy-in) }

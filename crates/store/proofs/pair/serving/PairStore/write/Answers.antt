@@ -1,71 +1,58 @@
-use mathlib.Core.Path.{_≡_, refl, sym, ap, subst, _∙_}
+use mathlib.Core.Path.{_≡_, sym, ap, _∙_}
 use mathlib.Core.Bool.{true, false}
-use Prim.Native.Nat.{_/_, _%_, _<_}
-use lib.Dec.{eqb}
+use Prim.Native.Nat.{_/_}
 use lib.ListN.{length}
 use Rattle.std.specs.Changed.{refilled}
 use Rattle.std.specs.Of.Vec.{vec-items}
-use Rattle.std.specs.declared.result.Result.the-variants.{Ok}
-use Rattle.model.specs.Image.{access, put}
+use Rattle.model.specs.Image.{put}
 use Rattle.store.specs.Bottoms.{pair-of}
-use Rattle.store.specs.Stores.{stretch, pair-image}
-use Rattle.store.proofs.Pairs.{half, is-even, is-odd, pair-room, pair-seen, pair-put}
+use Rattle.store.specs.Stores.{pair-image}
+use Rattle.store.proofs.Pairs.{is-even, is-odd, pair-room, pair-put}
 use Rattle.store.proofs.Stretches.{room-at, copied}
-use Rattle.store.proofs.Tabled.{access-at, length-put}
+use Rattle.store.proofs.Tabled.{length-put}
 use Rattle.store.proofs.pair.serving.PairStore.write.Needs as need
-use Rattle.store.proofs.pair.serving.PairStore.write.Needs.{After-from-k, After-copy-in, After-copy-in-else-sector-eq0}
+use Rattle.store.proofs.pair.serving.PairStore.write.Needs.{After-copy-in, After-copy-in-else-sector-eq0}
 
-inside : (c : After-from-k) → c .args .sector < length (pair-of (c .args .self .now))
-inside c = subst (λ n. c .args .sector < n) (c .args .self .now .sized) (c .if-sector-self .left)
-
-accepted : (c : After-from-k) → Ok tt ≡ access (pair-of (c .args .self .now)) (c .args .sector)
-accepted c =
+written-even : (c : After-copy-in) → pair-image (vec-items (refilled (c .args .self .now .even) (c .copy-in .last .target))) (vec-items (c .args .self .now .odd)) ≡ put (pair-of (c .args .self .now)) (c .args .sector) (c .args .bytes .now)
+written-even c =
     let s = c .args .self .now in
-    let b = eqb (c .args .sector % 2) 0 in
-    sym (access-at (pair-of s) (c .args .sector) (Ok (stretch (half b (vec-items (s .even)) (vec-items (s .odd))) (c .args .sector / 2))) (pair-seen (vec-items (s .even)) (vec-items (s .odd)) (c .args .sector) (inside c) b refl))
+    let found = c .in-Continue-k .ensures tt in
+    let change = copied (s .even) (c .deref-mut .result .now) (c .copy-in .last .target) (c .args .bytes .now) (c .in-Continue-k .k) (c .args .sector / 2) (c .deref-mut .ensures .value) (c .copy-in .kept .target) (found .0) (c .copy-in .ensures .here) (c .copy-in .ensures .elsewhere) in
+    pair-put (vec-items (s .even)) (vec-items (s .odd)) (c .args .sector) (found .1) true (vec-items (refilled (s .even) (c .copy-in .last .target))) (c .args .bytes .now) (is-even (c .args .sector) (c .if-sector-eq0 .taken)) change
 
-written-even : (c : After-copy-in) → c .args .sector < length (pair-of (c .args .self .now)) → pair-image (vec-items (refilled (c .args .self .now .even) (c .copy-in .last .target))) (vec-items (c .args .self .now .odd)) ≡ put (pair-of (c .args .self .now)) (c .args .sector) (c .args .bytes .now)
-written-even c l =
+written-odd : (c : After-copy-in-else-sector-eq0) → pair-image (vec-items (c .args .self .now .even)) (vec-items (refilled (c .args .self .now .odd) (c .copy-in-else-sector-eq0 .last .target))) ≡ put (pair-of (c .args .self .now)) (c .args .sector) (c .args .bytes .now)
+written-odd c =
     let s = c .args .self .now in
-    let after = vec-items (refilled (s .even) (c .copy-in .last .target)) in
-    let change = copied (s .even) (c .deref-mut .result .now) (c .copy-in .last .target) (c .args .bytes .now) (c .from-k .result) (c .args .sector / 2) (c .deref-mut .ensures .value) (c .copy-in .kept .target) (c .from-k .ensures) (c .copy-in .ensures .here) (c .copy-in .ensures .elsewhere) in
-    pair-put (vec-items (s .even)) (vec-items (s .odd)) (c .args .sector) l true after (c .args .bytes .now) (is-even (c .args .sector) (c .if-sector-eq0 .taken)) change
-
-written-odd : (c : After-copy-in-else-sector-eq0) → c .args .sector < length (pair-of (c .args .self .now)) → pair-image (vec-items (c .args .self .now .even)) (vec-items (refilled (c .args .self .now .odd) (c .copy-in-else-sector-eq0 .last .target))) ≡ put (pair-of (c .args .self .now)) (c .args .sector) (c .args .bytes .now)
-written-odd c l =
-    let s = c .args .self .now in
-    let after = vec-items (refilled (s .odd) (c .copy-in-else-sector-eq0 .last .target)) in
-    let change = copied (s .odd) (c .deref-mut-else-sector-eq0 .result .now) (c .copy-in-else-sector-eq0 .last .target) (c .args .bytes .now) (c .from-k .result) (c .args .sector / 2) (c .deref-mut-else-sector-eq0 .ensures .value) (c .copy-in-else-sector-eq0 .kept .target) (c .from-k .ensures) (c .copy-in-else-sector-eq0 .ensures .here) (c .copy-in-else-sector-eq0 .ensures .elsewhere) in
-    pair-put (vec-items (s .even)) (vec-items (s .odd)) (c .args .sector) l false after (c .args .bytes .now) (is-odd (c .args .sector) (c .if-sector-eq0 .left)) change
+    let found = c .in-Continue-k .ensures tt in
+    let change = copied (s .odd) (c .deref-mut-else-sector-eq0 .result .now) (c .copy-in-else-sector-eq0 .last .target) (c .args .bytes .now) (c .in-Continue-k .k) (c .args .sector / 2) (c .deref-mut-else-sector-eq0 .ensures .value) (c .copy-in-else-sector-eq0 .kept .target) (found .0) (c .copy-in-else-sector-eq0 .ensures .here) (c .copy-in-else-sector-eq0 .ensures .elsewhere) in
+    pair-put (vec-items (s .even)) (vec-items (s .odd)) (c .args .sector) (found .1) false (vec-items (refilled (s .odd) (c .copy-in-else-sector-eq0 .last .target))) (c .args .bytes .now) (is-odd (c .args .sector) (c .if-sector-eq0 .left)) change
 
 pub copy-in-requires : need.copy-in-requires
 copy-in-requires c κs =
     let s = c .args .self .now in
-    let room = pair-room (vec-items (s .even)) (vec-items (s .odd)) (c .args .sector) (inside (need.at·copy-in-requires c .After-from-k)) true in
-    room-at (c .deref-mut .result .now) (vec-items (s .even)) (c .from-k .result) (c .args .sector / 2) (c .deref-mut .ensures .value) (c .from-k .ensures) room
-
-pub ghost-self : need.ghost-self
-ghost-self c =
-    let here = need.at·ghost-self c in
-    (c .args .self .now .sized ∙ sym (ap length (written-even (here .After-copy-in) (inside (here .After-from-k))) ∙ length-put (pair-of (c .args .self .now)) (c .args .sector) (c .args .bytes .now)), tt)
+    let found = c .in-Continue-k .ensures tt in
+    room-at (c .deref-mut .result .now) (vec-items (s .even)) (c .in-Continue-k .k) (c .args .sector / 2) (c .deref-mut .ensures .value) (found .0) (pair-room (vec-items (s .even)) (vec-items (s .odd)) (c .args .sector) (found .1) true)
 
 pub copy-in-requires-else-sector-eq0 : need.copy-in-requires-else-sector-eq0
 copy-in-requires-else-sector-eq0 c κs =
     let s = c .args .self .now in
-    let room = pair-room (vec-items (s .even)) (vec-items (s .odd)) (c .args .sector) (inside (need.at·copy-in-requires-else-sector-eq0 c .After-from-k)) false in
-    room-at (c .deref-mut-else-sector-eq0 .result .now) (vec-items (s .odd)) (c .from-k .result) (c .args .sector / 2) (c .deref-mut-else-sector-eq0 .ensures .value) (c .from-k .ensures) room
+    let found = c .in-Continue-k .ensures tt in
+    room-at (c .deref-mut-else-sector-eq0 .result .now) (vec-items (s .odd)) (c .in-Continue-k .k) (c .args .sector / 2) (c .deref-mut-else-sector-eq0 .ensures .value) (found .0) (pair-room (vec-items (s .even)) (vec-items (s .odd)) (c .args .sector) (found .1) false)
+
+pub ghost-self : need.ghost-self
+ghost-self c =
+    let s = c .args .self .now in
+    (s .sized ∙ sym (ap length (written-even (need.at·ghost-self c .After-copy-in)) ∙ length-put (pair-of s) (c .args .sector) (c .args .bytes .now)), tt)
 
 pub ghost-self-else-sector-eq0 : need.ghost-self-else-sector-eq0
 ghost-self-else-sector-eq0 c =
-    let here = need.at·ghost-self-else-sector-eq0 c in
-    (c .args .self .now .sized ∙ sym (ap length (written-odd (here .After-copy-in-else-sector-eq0) (inside (here .After-from-k))) ∙ length-put (pair-of (c .args .self .now)) (c .args .sector) (c .args .bytes .now)), tt)
+    let s = c .args .self .now in
+    (s .sized ∙ sym (ap length (written-odd (need.at·ghost-self-else-sector-eq0 c .After-copy-in-else-sector-eq0)) ∙ length-put (pair-of s) (c .args .sector) (c .args .bytes .now)), tt)
 
 pub returns-then-sector-eq0 : need.returns-then-sector-eq0
 returns-then-sector-eq0 c =
-    let here = need.at·returns-then-sector-eq0 c in
-    record { answer = accepted (here .After-from-k); image = written-even (here .After-copy-in) (inside (here .After-from-k)) }
+    record { answer = sym (c .in-Continue-k .ensures tt .1); image = written-even (need.at·returns-then-sector-eq0 c .After-copy-in) }
 
 pub returns-else-sector-eq0 : need.returns-else-sector-eq0
 returns-else-sector-eq0 c =
-    let here = need.at·returns-else-sector-eq0 c in
-    record { answer = accepted (here .After-from-k); image = written-odd (here .After-copy-in-else-sector-eq0) (inside (here .After-from-k)) }
+    record { answer = sym (c .in-Continue-k .ensures tt .1); image = written-odd (need.at·returns-else-sector-eq0 c .After-copy-in-else-sector-eq0) }

@@ -6,8 +6,8 @@ use Rattle.std.specs.declared.result.Result.the-variants.{Err}
 use Rattle.store.specs.Bottoms.{flat-of}
 use Rattle.store.specs.Stores.{member}
 use Rattle.store.proofs.Flats.{contains-member, flat-dead, flat-live}
-use Rattle.store.proofs.flat.Flat.check.Needs as need
-use Rattle.store.proofs.flat.Flat.check.Needs.{After-contains}
+use Rattle.store.proofs.flat.Flat.place.Needs as need
+use Rattle.store.proofs.flat.Flat.place.Needs.{After-contains}
 
 listed : (c : After-contains) → member (c .args .sector) (vec-items (c .args .self .now .dead)) ≡ c .contains .result
 listed c =
@@ -15,16 +15,16 @@ listed c =
     ∙ sym (contains-member (c .args .sector) (c .deref .result .now) (c .contains .result) (c .contains .ensures .cases))
 
 inside : (c : After-contains) → c .args .sector < length (flat-of (c .args .self .now))
-inside c = subst (λ n. c .args .sector < n) (c .args .self .now .sized) (c .if-sector-self .left)
+inside c = subst (λ n. c .args .sector < n) (c .size .ensures) (c .if-sector-size .left)
 
 pub returns-then-contains : need.returns-then-contains
 returns-then-contains c =
     let s = c .args .self .now in
     let here = need.at·returns-then-contains c .After-contains in
-    ap Err (c .dead-here .ensures) ∙ sym (flat-dead (vec-items (s .buffer)) (vec-items (s .dead)) (c .args .sector) (inside here) (listed here ∙ c .if-contains .taken))
+    flat-dead (vec-items (s .buffer)) (vec-items (s .dead)) (c .args .sector) (inside here) (listed here ∙ c .if-contains .taken) ∙ sym (ap Err (c .dead-here .ensures))
 
-pub returns : need.returns
-returns c =
+pub returns-else-contains : need.returns-else-contains
+returns-else-contains c =
     let s = c .args .self .now in
-    let here = need.at·returns c .After-contains in
-    sym (flat-live (vec-items (s .buffer)) (vec-items (s .dead)) (c .args .sector) (inside here) (listed here ∙ c .if-contains .left))
+    let here = need.at·returns-else-contains c .After-contains in
+    (c .from .ensures, flat-live (vec-items (s .buffer)) (vec-items (s .dead)) (c .args .sector) (inside here) (listed here ∙ c .if-contains .left))
