@@ -17,7 +17,7 @@ use Rattle.model.specs.declared.types.Refusal.{Refusal}
 use Rattle.model.specs.Sizes.{most-sectors}
 use Rattle.model.specs.Image.{Image, Sector, bytes, dead, from-to, whole-sector, whole, dead-at, seen, look, done-or-fault, access, put}
 use Rattle.store.specs.Stores.{fit-answer, laid, member, most-listed, whole-sectors, stretch, flat-fits, flat-sector, flat-image}
-use Rattle.store.proofs.Laid.{length-fit, length-misfit, whole-laid, inside-laid, look-laid, put-laid, inside-accepted, not-dead}
+use Rattle.store.proofs.Laid.{length-fit, whole-laid, inside-laid, look-laid, put-laid, inside-accepted, never-both}
 use Rattle.store.proofs.Stretches.{count-most, room-for, length-stretch, Copied}
 
 -- what `contains` answers
@@ -36,9 +36,6 @@ module _ (buffer deads : List ℕ) where
 
   pub flat-size : (u : Unit {0}) → _≡_ {A = Result (Unit {0}) Refusal} (Ok u) (fit-answer (flat-fits buffer deads)) → length (flat-image buffer deads) ≡ length buffer / 512
   flat-size = length-fit (flat-fits buffer deads) count (flat-sector buffer deads)
-
-  pub flat-none : (r : Refusal) → _≡_ {A = Result (Unit {0}) Refusal} (Err r) (fit-answer (flat-fits buffer deads)) → length (flat-image buffer deads) ≡ 0
-  flat-none = length-misfit (flat-fits buffer deads) count (flat-sector buffer deads)
 
   pub flat-whole : whole (flat-image buffer deads) ≡ true
   flat-whole = whole-laid (flat-fits buffer deads) count (flat-sector buffer deads) few each
@@ -75,7 +72,7 @@ module _ (buffer deads : List ℕ) where
     alive = go (cases-bool (member s deads))
       where
         go : (member s deads ≡ true) ⊎ (member s deads ≡ false) → member s deads ≡ false
-        go (inl e) = absurd (not-dead (dead-at s 0) (sym (flat-dead s inside e) ∙ h))
+        go (inl e) = absurd (never-both (dead-at s 0) (sym (flat-dead s inside e) ∙ h))
         go (inr e) = e
 
     pub flat-seen : look (flat-image buffer deads) s ≡ Ok (stretch buffer s)

@@ -21,10 +21,6 @@ pub length-fit : (b : Bool) (n : ℕ) (f : ℕ → Sector) (u : Unit {0}) → _�
 length-fit true n f u e = length-table n f
 length-fit false n f u e = let z : _≡_ {A = ℕ} 0 1 = cc in cc
 
-pub length-misfit : (b : Bool) (n : ℕ) (f : ℕ → Sector) (r : Refusal) → _≡_ {A = Result (Unit {0}) Refusal} (Err r) (fit-answer b) → length (laid b (from-to 0 n f)) ≡ 0
-length-misfit true n f r e = let z : _≡_ {A = ℕ} 0 1 = cc in cc
-length-misfit false n f r e = refl
-
 pub whole-laid : (b : Bool) (n : ℕ) (f : ℕ → Sector) → (b ≡ true → n ≤ most-sectors) → (b ≡ true → (s : ℕ) → s < n → whole-sector (f s) ≡ true) → whole (laid b (from-to 0 n f)) ≡ true
 whole-laid true n f l h = whole-table n f (l refl) (h refl)
 whole-laid false n f l h = refl
@@ -42,13 +38,13 @@ pub put-laid : (b : Bool) (n : ℕ) (f g : ℕ → Sector) (s : ℕ) (old new : 
 put-laid true n f g s old new l p q r = put-table n f g s old new (inside-laid true n f s l .1) p q r
 put-laid false n f g s old new l p q r = absurd (omega arith)
 
--- an accepted sector stands in the image
-pub not-dead : (f : Fault) → _≡_ {A = Result (Unit {0}) Fault} (Err f) (Ok tt) → ⊥
-not-dead f e = let z : _≡_ {A = ℕ} 0 1 = cc in omega arith
+-- no access is both refused and accepted, and an accepted one is to a sector of the image
+pub never-both : (f : Fault) → _≡_ {A = Result (Unit {0}) Fault} (Err f) (Ok tt) → ⊥
+never-both f e = let z : _≡_ {A = ℕ} 0 1 = cc in omega arith
 
 pub inside-accepted : (i : Image) (s : ℕ) → access i s ≡ Ok tt → s < length i
 inside-accepted i s h = go (cases-lt s (length i))
   where
     go : (s < length i) ⊎ (length i ≤ s) → s < length i
     go (inl l) = l
-    go (inr l) = absurd (not-dead (past-end-at s) (sym (access-at i s (Err (past-end-at s)) (look-outside i s l)) ∙ h))
+    go (inr l) = absurd (never-both (past-end-at s) (sym (access-at i s (Err (past-end-at s)) (look-outside i s l)) ∙ h))

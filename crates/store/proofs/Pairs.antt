@@ -8,12 +8,12 @@ use lib.Dec.{eqb, leb}
 use lib.ListN.{length}
 use Rattle.std.proofs.shelf.Tests.{and-parts, eqb-true, eqb-false, eq-eqb, ne-eqb}
 use Rattle.std.specs.declared.result.Result.{Result}
-use Rattle.std.specs.declared.result.Result.the-variants.{Ok, Err}
+use Rattle.std.specs.declared.result.Result.the-variants.{Ok}
 use Rattle.model.specs.declared.types.Refusal.{Refusal}
 use Rattle.model.specs.Sizes.{most-sectors}
 use Rattle.model.specs.Image.{Image, Sector, bytes, from-to, whole-sector, whole, look, done-or-fault, access, put}
 use Rattle.store.specs.Stores.{fit-answer, laid, whole-sectors, stretch, most-of-pair, pair-fits, pair-sector, pair-image}
-use Rattle.store.proofs.Laid.{length-fit, length-misfit, whole-laid, inside-laid, look-laid, put-laid, inside-accepted}
+use Rattle.store.proofs.Laid.{length-fit, whole-laid, inside-laid, look-laid, put-laid, inside-accepted}
 use Rattle.store.proofs.Stretches.{count-most, room-for, length-stretch, Copied}
 
 -- an image of two buffers, by their lengths
@@ -50,9 +50,6 @@ module _ (even odd : List ℕ) where
 
   pub pair-size : (u : Unit {0}) → _≡_ {A = Result (Unit {0}) Refusal} (Ok u) (fit-answer (pair-fits even odd)) → length (pair-image even odd) ≡ 2 * (length even / 512)
   pair-size = length-fit (pair-fits even odd) count (pair-sector even odd)
-
-  pub pair-none : (r : Refusal) → _≡_ {A = Result (Unit {0}) Refusal} (Err r) (fit-answer (pair-fits even odd)) → length (pair-image even odd) ≡ 0
-  pair-none = length-misfit (pair-fits even odd) count (pair-sector even odd)
 
   fit-parts : pair-fits even odd ≡ true → (eqb (length even) (length odd) ≡ true) × (whole-sectors most-of-pair even ≡ true)
   fit-parts h = and-parts (eqb (length even) (length odd)) (whole-sectors most-of-pair even) h

@@ -7,14 +7,14 @@ use Prim.Native.Nat.{ℕ, _+_, _-_, _*_, _≤_, _<_}
 use native.Mathlib.Omega.{arith}
 use lib.Dec.{eqb, ltb, leb}
 use lib.ListN.{length}
-use Rattle.std.proofs.shelf.Tests.{eqb-true, eq-eqb, ltb-true, leb-true, lt-ltb, le-ltb, le-leb, lt-leb, or-cases, or-left, or-right, or-from, cases-bool}
+use Rattle.std.proofs.shelf.Tests.{eqb-true, eq-eqb, ltb-true, leb-true, lt-ltb, le-ltb, or-cases, cases-bool}
 use Rattle.std.specs.declared.result.Result.{Result}
 use Rattle.std.specs.declared.result.Result.the-variants.{Ok, Err}
 use Rattle.model.specs.declared.types.Refusal.{Refusal}
 use Rattle.model.specs.Sizes.{most-sectors}
 use Rattle.model.specs.Image.{Image, Sector, bytes, dead, from-to, whole-sector, whole, dead-at, seen, look, done-or-fault, access, put}
 use Rattle.store.specs.Stores.{fit-answer, laid, stretch, short-bytes, short-size, short-fits, short-lives, short-place, short-sector, short-image}
-use Rattle.store.proofs.Laid.{length-fit, length-misfit, whole-laid, inside-laid, look-laid, put-laid, inside-accepted, not-dead}
+use Rattle.store.proofs.Laid.{length-fit, whole-laid, inside-laid, look-laid, put-laid, inside-accepted, never-both}
 use Rattle.store.proofs.Stretches.{length-stretch, Copied}
 
 pub size-is : short-size ≡ 260
@@ -22,15 +22,6 @@ unfolding short-size
 size-is = refl
 
 -- the live sectors, and their places
-pub low-lives : (s : ℕ) → s < 0x40 → short-lives s ≡ true
-low-lives s l = or-left (ltb s 0x40) (leb 0x100 s) (lt-ltb s 0x40 l)
-
-pub high-lives : (s : ℕ) → 0x100 ≤ s → short-lives s ≡ true
-high-lives s l = or-right (ltb s 0x40) (leb 0x100 s) (le-leb 0x100 s l)
-
-pub between-dead : (s : ℕ) → 0x40 ≤ s → s < 0x100 → short-lives s ≡ false
-between-dead s l h = or-from (ltb s 0x40) (leb 0x100 s) (le-ltb s 0x40 l) (lt-leb 0x100 s h)
-
 pub low-place : (s : ℕ) → s < 0x40 → short-place s ≡ s
 low-place s l = ap (λ b. cond b s (0x40 + (s - 0x100))) (lt-ltb s 0x40 l)
 
@@ -69,9 +60,6 @@ module _ (buffer : List ℕ) where
   pub short-count : (u : Unit {0}) → _≡_ {A = Result (Unit {0}) Refusal} (Ok u) (fit-answer (short-fits buffer)) → length (short-image buffer) ≡ 260
   short-count u e = length-fit (short-fits buffer) short-size (short-sector buffer) u e ∙ size-is
 
-  pub short-none : (r : Refusal) → _≡_ {A = Result (Unit {0}) Refusal} (Err r) (fit-answer (short-fits buffer)) → length (short-image buffer) ≡ 0
-  short-none = length-misfit (short-fits buffer) short-size (short-sector buffer)
-
   room : (s : ℕ) → short-fits buffer ≡ true → s < short-size → short-lives s ≡ true → 512 * short-place s + 512 ≤ length buffer
   room s h l a = subst (λ n. 512 * short-place s + 512 ≤ n) (sym (eqb-true (length buffer) short-bytes h)) (room-placed s (short-place s) (placed s a) (subst (λ n. s < n) size-is l))
 
@@ -108,7 +96,7 @@ module _ (buffer : List ℕ) where
       where
         go : (short-lives s ≡ true) ⊎ (short-lives s ≡ false) → short-lives s ≡ true
         go (inl e) = e
-        go (inr e) = absurd (not-dead (dead-at s 0) (sym (short-dead s inside e) ∙ h))
+        go (inr e) = absurd (never-both (dead-at s 0) (sym (short-dead s inside e) ∙ h))
 
     pub short-room : 512 * short-place s + 512 ≤ length buffer
     short-room = let within = inside-laid (short-fits buffer) short-size (short-sector buffer) s inside in room s (within .0) (within .1) alive

@@ -1,9 +1,9 @@
 // The flat store at work.
 ghost use mathlib.Core.Path.{_≡_};
+ghost use lib.ListN.{length};
 ghost use Rattle.std.specs.Of.Vec.{vec-items};
-ghost use Rattle.std.specs.Results.{Cases};
-ghost use Rattle.std.specs.declared.result.Result.the-variants.{Ok, Err};
-ghost use Rattle.model.specs.Image.{access};
+ghost use Rattle.std.specs.declared.result.Result.the-variants.{Ok};
+ghost use Rattle.model.specs.Image.{access, filled, put};
 ghost use Rattle.store.specs.Bottoms.{flat-of};
 ghost use Rattle.store.specs.Stores.{fit-answer, flat-fits, flat-image};
 use super::Flat;
@@ -30,12 +30,10 @@ impl Flat {
 
     // Takes the buffer as a store. What does not fit is a store with no sector.
     pub fn lay(buffer: Vec<u8>, dead: Vec<u16>) -> Flat
-        ensures { λ r. ⌜ flat-of r ≡ flat-image (vec-items buffer) (vec-items dead) ⌝ }
+        ensures bytes { λ r. ⌜ vec-items (r .buffer) ≡ vec-items buffer ⌝ }
+        ensures image { λ r. ⌜ flat-of r ≡ flat-image (vec-items buffer) (vec-items dead) ⌝ }
     {
-        let sectors = match Flat::fits(&buffer, &dead) {
-            Ok(()) => (buffer.len() / SECTOR) as u16,
-            Err(_) => 0,
-        };
+        let sectors = Flat::count(&buffer, &dead);
         Flat {
             buffer,
             dead,
@@ -52,17 +50,43 @@ impl Flat {
         buffer
     }
 
-    // Which stretch of the buffer the sector lies in, or the fault that a read and a write of it meet.
-    fn place(&self, sector: u16) -> Result<usize, Fault>
-        ensures { λ r. ⌜ Cases r (λ k. (k ≡ sector) × (access (flat-of (now (self .entry))) sector ≡ Ok tt)) (λ f. access (flat-of (now (self .entry))) sector ≡ Err f) ⌝ }
+    // The sectors of what is laid.
+    fn count(buffer: &[u8], dead: &[u16]) -> u16
+        ensures { λ r. ⌜ r ≡ length (flat-image (now (buffer .entry)) (now (dead .entry))) ⌝ }
+    {
+        match Flat::fits(buffer, dead) {
+            Ok(()) => (buffer.len() / SECTOR) as u16,
+            Err(_) => 0,
+        }
+    }
+
+    // What a read and a write of the sector answer.
+    fn check(&self, sector: u16) -> Result<(), Fault>
+        ensures { λ r. ⌜ r ≡ access (flat-of (now (self .entry))) sector ⌝ }
     {
         if sector >= self.size() {
             Err(faults::past_end(sector))
         } else if self.dead.contains(&sector) {
             Err(faults::dead_here(sector))
         } else {
-            Ok(usize::from(sector))
+            Ok(())
         }
+    }
+
+    // Fills the buffer from a sector that was checked.
+    fn fill(&self, sector: u16, buffer: &mut [u8; SECTOR])
+        requires { ⌜ access (flat-of (now self)) sector ≡ Ok tt ⌝ }
+        ensures { λ _. ⌜ now (buffer .exit) ≡ filled (flat-of (now (self .entry))) sector (now (buffer .entry)) ⌝ }
+    {
+        stretch::copy_out(&self.buffer, usize::from(sector), buffer);
+    }
+
+    // Replaces the bytes of a sector that was checked.
+    fn replace(&mut self, sector: u16, bytes: &[u8; SECTOR])
+        requires { ⌜ access (flat-of (now self)) sector ≡ Ok tt ⌝ }
+        ensures { λ _. ⌜ flat-of (now (self .exit)) ≡ put (flat-of (now (self .entry))) sector (now (bytes .entry)) ⌝ }
+    {
+        stretch::copy_in(&mut self.buffer, usize::from(sector), bytes);
     }
 }
 
@@ -74,14 +98,14 @@ pub impl Store for Flat as FlatStore {
     }
 
     fn read(&mut self, sector: u16, buffer: &mut [u8; SECTOR]) -> Result<(), Fault> {
-        let k = self.place(sector)?;
-        stretch::copy_out(&self.buffer, k, buffer);
+        self.check(sector)?;
+        self.fill(sector, buffer);
         Ok(())
     }
 
     fn write(&mut self, sector: u16, bytes: &[u8; SECTOR]) -> Result<(), Fault> {
-        let k = self.place(sector)?;
-        stretch::copy_in(&mut self.buffer, k, bytes);
+        self.check(sector)?;
+        self.replace(sector, bytes);
         Ok(())
     }
 }

@@ -1,10 +1,9 @@
 // The store of two buffers at work.
 ghost use mathlib.Core.Path.{_≡_};
-ghost use Prim.Native.Nat.{_/_};
+ghost use lib.ListN.{length};
 ghost use Rattle.std.specs.Of.Vec.{vec-items};
-ghost use Rattle.std.specs.Results.{Cases};
-ghost use Rattle.std.specs.declared.result.Result.the-variants.{Ok, Err};
-ghost use Rattle.model.specs.Image.{access};
+ghost use Rattle.std.specs.declared.result.Result.the-variants.{Ok};
+ghost use Rattle.model.specs.Image.{access, filled, put};
 ghost use Rattle.store.specs.Bottoms.{pair-of};
 ghost use Rattle.store.specs.Stores.{fit-answer, pair-fits, pair-image};
 use super::Pair;
@@ -32,12 +31,10 @@ impl Pair {
 
     // Takes the two buffers as a store. What does not fit is a store with no sector.
     pub fn lay(even: Vec<u8>, odd: Vec<u8>) -> Pair
-        ensures { λ r. ⌜ pair-of r ≡ pair-image (vec-items even) (vec-items odd) ⌝ }
+        ensures bytes { λ r. ⌜ (vec-items (r .even) ≡ vec-items even) × (vec-items (r .odd) ≡ vec-items odd) ⌝ }
+        ensures image { λ r. ⌜ pair-of r ≡ pair-image (vec-items even) (vec-items odd) ⌝ }
     {
-        let sectors = match Pair::fits(&even, &odd) {
-            Ok(()) => (2 * (even.len() / SECTOR)) as u16,
-            Err(_) => 0,
-        };
+        let sectors = Pair::count(&even, &odd);
         Pair { even, odd, sectors }
     }
 
@@ -50,14 +47,50 @@ impl Pair {
         (even, odd)
     }
 
-    // Which stretch of its buffer the sector lies in, or the fault that a read and a write of it meet.
-    fn place(&self, sector: u16) -> Result<usize, Fault>
-        ensures { λ r. ⌜ Cases r (λ k. (k ≡ sector / 2) × (access (pair-of (now (self .entry))) sector ≡ Ok tt)) (λ f. access (pair-of (now (self .entry))) sector ≡ Err f) ⌝ }
+    // The sectors of what is laid.
+    fn count(even: &[u8], odd: &[u8]) -> u16
+        ensures { λ r. ⌜ r ≡ length (pair-image (now (even .entry)) (now (odd .entry))) ⌝ }
+    {
+        match Pair::fits(even, odd) {
+            Ok(()) => (2 * (even.len() / SECTOR)) as u16,
+            Err(_) => 0,
+        }
+    }
+
+    // What a read and a write of the sector answer.
+    fn check(&self, sector: u16) -> Result<(), Fault>
+        ensures { λ r. ⌜ r ≡ access (pair-of (now (self .entry))) sector ⌝ }
     {
         if sector >= self.size() {
             Err(faults::past_end(sector))
         } else {
-            Ok(usize::from(sector / 2))
+            Ok(())
+        }
+    }
+
+    // Fills the buffer from a sector that was checked.
+    fn fill(&self, sector: u16, buffer: &mut [u8; SECTOR])
+        requires { ⌜ access (pair-of (now self)) sector ≡ Ok tt ⌝ }
+        ensures { λ _. ⌜ now (buffer .exit) ≡ filled (pair-of (now (self .entry))) sector (now (buffer .entry)) ⌝ }
+    {
+        let k = usize::from(sector / 2);
+        if sector % 2 == 0 {
+            stretch::copy_out(&self.even, k, buffer);
+        } else {
+            stretch::copy_out(&self.odd, k, buffer);
+        }
+    }
+
+    // Replaces the bytes of a sector that was checked.
+    fn replace(&mut self, sector: u16, bytes: &[u8; SECTOR])
+        requires { ⌜ access (pair-of (now self)) sector ≡ Ok tt ⌝ }
+        ensures { λ _. ⌜ pair-of (now (self .exit)) ≡ put (pair-of (now (self .entry))) sector (now (bytes .entry)) ⌝ }
+    {
+        let k = usize::from(sector / 2);
+        if sector % 2 == 0 {
+            stretch::copy_in(&mut self.even, k, bytes);
+        } else {
+            stretch::copy_in(&mut self.odd, k, bytes);
         }
     }
 }
@@ -70,22 +103,14 @@ pub impl Store for Pair as PairStore {
     }
 
     fn read(&mut self, sector: u16, buffer: &mut [u8; SECTOR]) -> Result<(), Fault> {
-        let k = self.place(sector)?;
-        if sector % 2 == 0 {
-            stretch::copy_out(&self.even, k, buffer);
-        } else {
-            stretch::copy_out(&self.odd, k, buffer);
-        }
+        self.check(sector)?;
+        self.fill(sector, buffer);
         Ok(())
     }
 
     fn write(&mut self, sector: u16, bytes: &[u8; SECTOR]) -> Result<(), Fault> {
-        let k = self.place(sector)?;
-        if sector % 2 == 0 {
-            stretch::copy_in(&mut self.even, k, bytes);
-        } else {
-            stretch::copy_in(&mut self.odd, k, bytes);
-        }
+        self.check(sector)?;
+        self.replace(sector, bytes);
         Ok(())
     }
 }

@@ -1,11 +1,11 @@
 // The short store at work.
 ghost use mathlib.Core.Path.{_≡_};
+ghost use lib.ListN.{length};
 ghost use Rattle.std.specs.Of.Vec.{vec-items};
-ghost use Rattle.std.specs.Results.{Cases};
-ghost use Rattle.std.specs.declared.result.Result.the-variants.{Ok, Err};
-ghost use Rattle.model.specs.Image.{access};
+ghost use Rattle.std.specs.declared.result.Result.the-variants.{Ok};
+ghost use Rattle.model.specs.Image.{access, filled, put};
 ghost use Rattle.store.specs.Bottoms.{short-of};
-ghost use Rattle.store.specs.Stores.{fit-answer, short-fits, short-image, short-place};
+ghost use Rattle.store.specs.Stores.{fit-answer, short-fits, short-image, short-lives, short-place};
 use super::Short;
 use crate::SECTOR;
 use crate::Store;
@@ -38,12 +38,10 @@ impl Short {
 
     // Takes the buffer as a store. What does not fit is a store with no sector.
     pub fn lay(buffer: Vec<u8>) -> Short
-        ensures { λ r. ⌜ short-of r ≡ short-image (vec-items buffer) ⌝ }
+        ensures bytes { λ r. ⌜ vec-items (r .buffer) ≡ vec-items buffer ⌝ }
+        ensures image { λ r. ⌜ short-of r ≡ short-image (vec-items buffer) ⌝ }
     {
-        let sectors = match Short::fits(&buffer) {
-            Ok(()) => SECTORS,
-            Err(_) => 0,
-        };
+        let sectors = Short::count(&buffer);
         Short { buffer, sectors }
     }
 
@@ -56,19 +54,60 @@ impl Short {
         buffer
     }
 
-    // Which stretch of the buffer the sector lies in, or the fault that a read and a write of it meet.
-    fn place(&self, sector: u16) -> Result<usize, Fault>
-        ensures { λ r. ⌜ Cases r (λ k. (k ≡ short-place sector) × (access (short-of (now (self .entry))) sector ≡ Ok tt)) (λ f. access (short-of (now (self .entry))) sector ≡ Err f) ⌝ }
+    // The sectors of what is laid.
+    fn count(buffer: &[u8]) -> u16
+        ensures { λ r. ⌜ r ≡ length (short-image (now (buffer .entry))) ⌝ }
+    {
+        match Short::fits(buffer) {
+            Ok(()) => SECTORS,
+            Err(_) => 0,
+        }
+    }
+
+    // What a read and a write of the sector answer.
+    fn check(&self, sector: u16) -> Result<(), Fault>
+        ensures { λ r. ⌜ r ≡ access (short-of (now (self .entry))) sector ⌝ }
     {
         if sector >= self.size() {
             Err(faults::past_end(sector))
-        } else if sector < LOW {
-            Ok(usize::from(sector))
-        } else if sector < TABLES {
-            Err(faults::dead_here(sector))
+        } else if lives(sector) {
+            Ok(())
         } else {
-            Ok(usize::from(LOW + (sector - TABLES)))
+            Err(faults::dead_here(sector))
         }
+    }
+
+    // Fills the buffer from a sector that was checked.
+    fn fill(&self, sector: u16, buffer: &mut [u8; SECTOR])
+        requires { ⌜ access (short-of (now self)) sector ≡ Ok tt ⌝ }
+        ensures { λ _. ⌜ now (buffer .exit) ≡ filled (short-of (now (self .entry))) sector (now (buffer .entry)) ⌝ }
+    {
+        stretch::copy_out(&self.buffer, place(sector), buffer);
+    }
+
+    // Replaces the bytes of a sector that was checked.
+    fn replace(&mut self, sector: u16, bytes: &[u8; SECTOR])
+        requires { ⌜ access (short-of (now self)) sector ≡ Ok tt ⌝ }
+        ensures { λ _. ⌜ short-of (now (self .exit)) ≡ put (short-of (now (self .entry))) sector (now (bytes .entry)) ⌝ }
+    {
+        stretch::copy_in(&mut self.buffer, place(sector), bytes);
+    }
+}
+
+fn lives(sector: u16) -> bool
+    ensures { λ r. ⌜ r ≡ short-lives sector ⌝ }
+{
+    sector < LOW || TABLES <= sector
+}
+
+// Which stretch of the buffer a live sector lies in.
+fn place(sector: u16) -> usize
+    ensures { λ r. ⌜ r ≡ short-place sector ⌝ }
+{
+    if sector < LOW {
+        usize::from(sector)
+    } else {
+        usize::from(LOW) + usize::from(sector.saturating_sub(TABLES))
     }
 }
 
@@ -80,14 +119,14 @@ pub impl Store for Short as ShortStore {
     }
 
     fn read(&mut self, sector: u16, buffer: &mut [u8; SECTOR]) -> Result<(), Fault> {
-        let k = self.place(sector)?;
-        stretch::copy_out(&self.buffer, k, buffer);
+        self.check(sector)?;
+        self.fill(sector, buffer);
         Ok(())
     }
 
     fn write(&mut self, sector: u16, bytes: &[u8; SECTOR]) -> Result<(), Fault> {
-        let k = self.place(sector)?;
-        stretch::copy_in(&mut self.buffer, k, bytes);
+        self.check(sector)?;
+        self.replace(sector, bytes);
         Ok(())
     }
 }
