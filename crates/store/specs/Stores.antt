@@ -72,17 +72,22 @@ pair-image even odd = laid (pair-fits even odd) (from-to 0 (2 * (length even / s
 abbrev pub short-bytes : ℕ
 short-bytes = 34816
 
-abbrev pub short-size : ℕ
+-- shut, so that no proof writes the sectors out
+unfoldable pub short-size : ℕ
 short-size = 260
 
 abbrev pub short-fits : List ℕ → Bool
 short-fits buffer = eqb (length buffer) short-bytes
 
+abbrev pub short-lives : ℕ → Bool
+short-lives s = ltb s 0x40 || leb 0x100 s
+
+-- which stretch of the buffer a live sector lies in
+abbrev pub short-place : ℕ → ℕ
+short-place s = cond (ltb s 0x40) s (0x40 + (s - 0x100))
+
 abbrev pub short-sector : List ℕ → ℕ → Sector
-short-sector buffer s =
-    cond (ltb s 0x40) (bytes (stretch buffer s))
-    (cond (ltb s 0x100) (dead s 0)
-    (bytes (stretch buffer (0x40 + (s - 0x100)))))
+short-sector buffer s = cond (short-lives s) (bytes (stretch buffer (short-place s))) (dead s 0)
 
 abbrev pub short-image : List ℕ → Image
 short-image buffer = laid (short-fits buffer) (from-to 0 short-size (short-sector buffer))
