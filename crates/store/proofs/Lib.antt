@@ -1,0 +1,3 @@
+pub mod Tabled
+pub mod Layered
+pub mod Windows

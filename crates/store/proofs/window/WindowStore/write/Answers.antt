@@ -1,0 +1,16 @@
+use Rattle.store.proofs.Layered.{layer-access, layer-put}
+use Rattle.store.proofs.Windows as windows
+use Rattle.store.proofs.window.WindowStore.write.Needs as need
+
+pub returns : need.returns
+returns g c =
+    let a = c .args .self .now .first in
+    let n = c .args .self .now .count in
+    let s = c .args .sector in
+    let below = g .S·Store .image (c .args .self .now .below) in
+    let p = c .in-Continue-place .place in
+    let e = c .in-Continue-place .ensures tt in
+    record {
+      answer = layer-access (windows.fits a n) n (windows.serve a n) (windows.sound a n) below s p e (c .risen .ensures) (c .write .ensures .answer);
+      image = layer-put (windows.fits a n) n (windows.serve a n) (windows.sound a n) below s p e (c .args .bytes .now) (c .write .ensures .image);
+    }
