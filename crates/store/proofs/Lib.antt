@@ -1,3 +1,4 @@
 pub mod Tabled
 pub mod Layered
 pub mod Windows
+pub mod Sparing
