@@ -3,16 +3,18 @@ use mathlib.Core.Path.{_≡_, refl, sym, ap, subst, _∙_}
 use mathlib.Core.Logic.{_⊎_, inl, inr}
 use mathlib.Core.Bool.{Bool, true, false, cond, not, _&&_, _||_}
 use mathlib.Core.List.{List, [], _∷_}
-use Prim.Native.Nat.{ℕ, suc, _+_, _≤_, _<_, max}
+use Prim.Native.Nat.{ℕ, _+_, _-_, _≤_, _<_, max}
 use native.Mathlib.Omega.{arith}
 use lib.Dec.{ltb, leb, eqb}
-use lib.ListN.{length}
+use lib.ListN.{length, take, drop}
+use Rattle.std.proofs.shelf.Lists.{take-rest}
 use Rattle.std.proofs.shelf.Tests.{ltb-true, lt-ltb, le-ltb, leb-true, le-leb, lt-leb, eqb-true, eq-eqb, ne-eqb, cases-eq, cases-lt, and-parts, not-true, both-ways}
 use Rattle.std.specs.declared.option.Option.{Option}
 use Rattle.std.specs.declared.option.Option.the-variants.{Some, None}
 use Rattle.model.specs.Image.{all}
 use Rattle.store.specs.declared.spares.Spare.{Spare}
-use Rattle.store.specs.Stores.{most-listed, member, distinct, sectors-of, spares-of, pairs-fit, least-below, needed, enough, served}
+use Rattle.store.specs.Stores.{most-listed, member, distinct, sectors-of, spares-of, pairs-fit, served}
+use Rattle.store.specs.Layers.{least-below, needed, enough}
 use Rattle.store.proofs.Layered.{Serves}
 
 -- what stands past the end of a list of pairs
@@ -50,6 +52,10 @@ clash-on p q ps n m =
     ap (λ b. (b || member (p .sector) (sectors-of ps)) || member (p .spare) (spares-of (q ∷ ps))) (ne-eqb (p .sector) (q .sector) (λ e. n (sym e)))
     ∙ ap (λ b. member (p .sector) (sectors-of ps) || (b || member (p .spare) (spares-of ps))) (ne-eqb (p .spare) (q .spare) (λ e. m (sym e)))
 
+-- against those from i on, which is how the code hands them over
+pub clash-rest : (p : Spare) (ps : List Spare) (i : ℕ) (r b : Bool) → r ≡ clash p (take (length ps - i) (drop i ps)) → r ≡ b → clash p (drop i ps) ≡ b
+clash-rest p ps i r b h k = ap (clash p) (sym (take-rest ps i)) ∙ (sym h ∙ k)
+
 -- pairs that fit one another ---------------------------------------------------------------------------------------
 
 -- but for their count
@@ -61,11 +67,6 @@ pub fit-agreeing : (v : ℕ) (ps : List Spare) → length ps ≤ most-listed →
 fit-agreeing v ps h =
     ap (λ b. b && distinct (sectors-of ps) && all (λ s. ltb s v) (sectors-of ps) && distinct (spares-of ps) && all (λ s. leb v s) (spares-of ps))
     (le-leb (length ps) most-listed h)
-
-pub fit-none : (v : ℕ) (ps : List Spare) → most-listed < length ps → pairs-fit v ps ≡ false
-fit-none v ps h =
-    ap (λ b. b && distinct (sectors-of ps) && all (λ s. ltb s v) (sectors-of ps) && distinct (spares-of ps) && all (λ s. leb v s) (spares-of ps))
-    (lt-leb (length ps) most-listed h)
 
 -- the test of a list by its first pair and the others: the pair's four facts, and the four of the others
 abbrev first-and : (m l n g d a e b : Bool) → Bool
@@ -158,9 +159,9 @@ module _ (v : ℕ) (ps : List Spare) where
   abbrev pub fits : ℕ → Bool
   fits n = pairs-fit v ps && leb v n && all (λ s. ltb s n) (spares-of ps)
 
-  -- whether the store below has enough sectors is whether all fits
-  pub enough-fits : (n m : ℕ) (need : Option ℕ) → m ≡ n → need ≡ needed v ps → enough m need ≡ fits n
-  enough-fits n m need p q = ap (λ x. enough x need) p ∙ (ap (enough n) q ∙ go (pairs-fit v ps))
+  -- whether m sectors below are enough is whether all fits
+  pub enough-fits : (n m : ℕ) (need : Option ℕ) (b : Bool) → m ≡ n → need ≡ needed v ps → b ≡ enough m need → fits n ≡ b
+  enough-fits n m need b p q h = sym (h ∙ (ap (λ x. enough x need) p ∙ (ap (enough n) q ∙ go (pairs-fit v ps))))
     where
       go : (q : Bool) → enough n (cond q (Some (least-below v (spares-of ps))) None) ≡ (q && leb v n && all (λ s. ltb s n) (spares-of ps))
       go true = sym (least-fits v (spares-of ps) n)

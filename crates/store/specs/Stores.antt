@@ -2,16 +2,13 @@
 -- What is laid without fitting is a store with no sector.
 use mathlib.Core.Bool.{Bool, true, false, cond, not, _&&_, _||_}
 use mathlib.Core.List.{List, [], _∷_, map}
-use Prim.Native.Nat.{ℕ, _+_, _-_, _*_, _/_, _%_, min, max}
+use Prim.Native.Nat.{ℕ, _+_, _-_, _*_, _/_, _%_}
 use lib.Dec.{ltb, leb, eqb}
 use lib.ListN.{length, getD, take, drop}
 use Rattle.std.specs.declared.result.Result.{Result}
 use Rattle.std.specs.declared.result.Result.the-variants.{Ok, Err}
-use Rattle.std.specs.declared.option.Option.{Option}
-use Rattle.std.specs.declared.option.Option.the-variants.{Some, None}
-use Rattle.model.specs.Sizes.{sector-size, most-sectors, deepest}
-use Rattle.model.specs.Image.{Image, Sector, bytes, dead, all, from-to, past-end-at, risen}
-use Rattle.model.specs.declared.types.Fault.{Fault}
+use Rattle.model.specs.Sizes.{sector-size, most-sectors}
+use Rattle.model.specs.Image.{Image, Sector, bytes, dead, all, from-to, risen}
 use Rattle.model.specs.declared.types.Refusal.{Refusal}
 use Rattle.model.specs.declared.types.Refusal.the-variants.{Misfit as misfit}
 use Rattle.store.specs.declared.spares.Spare.{Spare}
@@ -97,15 +94,6 @@ short-image buffer = laid (short-fits buffer) (from-to 0 short-size (short-secto
 abbrev pub layered : Image → ℕ → (ℕ → ℕ) → Image
 layered below c serve = from-to 0 c (λ s. risen (getD below (serve s) (dead 0 0)))
 
--- an answer of the store below, one layer up
-abbrev pub risen-answer : Result (Unit {0}) Fault → Result (Unit {0}) Fault
-risen-answer (Ok done) = Ok done
-risen-answer (Err f) = Err (record { cause = f .cause; place = f .place; depth = min (f .depth + 1) deepest })
-
--- where an access at s goes on below, or the fault that it meets in the layer
-abbrev pub led : Image → (ℕ → ℕ) → ℕ → Result ℕ Fault
-led i serve s = cond (ltb s (length i)) (Ok (serve s)) (Err (past-end-at s))
-
 -- window: sector s is sector a + s below, and there are c of them -------------------------------------------------
 
 abbrev pub window-fits : Image → ℕ → ℕ → Bool
@@ -134,19 +122,6 @@ pairs-fit v ps =
 -- and of the store below: it has the visible sectors and the spares
 abbrev pub spares-fit : Image → ℕ → List Spare → Bool
 spares-fit below v ps = pairs-fit v ps && leb v (length below) && all (λ s. ltb s (length below)) (spares-of ps)
-
--- the fewest sectors below that a number v and spares can do with
-abbrev pub least-below : ℕ → List ℕ → ℕ
-least-below v [] = v
-least-below v (s ∷ ss) = least-below (max v (s + 1)) ss
-
--- the fewest that the pairs can do with; no number is enough where the pairs themselves do not fit
-abbrev pub needed : ℕ → List Spare → Option ℕ
-needed v ps = cond (pairs-fit v ps) (Some (least-below v (spares-of ps))) None
-
-abbrev pub enough : ℕ → Option ℕ → Bool
-enough n None = false
-enough n (Some k) = leb k n
 
 -- the sector below that serves s
 abbrev pub served : List Spare → ℕ → ℕ

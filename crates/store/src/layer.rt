@@ -1,6 +1,6 @@
 // What every layer does with an answer of the store below.
 ghost use mathlib.Core.Path.{_≡_};
-ghost use Rattle.store.specs.Stores.{risen-answer};
+ghost use Rattle.store.specs.Layers.{risen-answer};
 use model::types::Fault;
 
 // The answer one layer up: a dead sector keeps its place and counts one layer more, up to 255.

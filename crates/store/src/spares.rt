@@ -2,7 +2,8 @@
 ghost use mathlib.Core.Bool.{_||_};
 ghost use mathlib.Core.Path.{_≡_};
 ghost use Rattle.std.specs.Of.Vec.{vec-items};
-ghost use Rattle.store.specs.Stores.{fit-answer, member, sectors-of, spares-of, pairs-fit, needed as least-needed, enough as is-enough, spares-fit, served, spares-image, led};
+ghost use Rattle.store.specs.Stores.{fit-answer, member, sectors-of, spares-of, pairs-fit, spares-fit, served, spares-image};
+ghost use Rattle.store.specs.Layers.{led, needed, enough};
 use crate::MOST_LISTED;
 use crate::SECTOR;
 use crate::Store;
@@ -26,7 +27,7 @@ pub struct Spares<S> {
     pairs: Vec<Spare>,
     // the sectors that the store below must have; none where the pairs do not fit one another
     need: Option<u32>,
-    ghost known: { need ≡ least-needed visible (vec-items pairs) },
+    ghost known: { need ≡ needed visible (vec-items pairs) },
 }
 
 impl<S: Store> Spares<S> {
@@ -112,7 +113,7 @@ fn serving(pairs: &[Spare], sector: u16) -> u16
 
 // The sectors that the store below must have for the pairs, if they fit one another.
 fn needed(visible: u16, pairs: &[Spare]) -> Option<u32>
-    ensures { λ r. ⌜ r ≡ least-needed visible (now (pairs .entry)) ⌝ }
+    ensures { λ r. ⌜ r ≡ needed visible (now (pairs .entry)) ⌝ }
 {
     if !agree(visible, pairs) {
         return None;
@@ -126,7 +127,7 @@ fn needed(visible: u16, pairs: &[Spare]) -> Option<u32>
 
 // Whether a store below of `size` sectors has as many as are needed.
 fn enough(size: u16, need: Option<u32>) -> bool
-    ensures { λ r. ⌜ r ≡ is-enough size need ⌝ }
+    ensures { λ r. ⌜ r ≡ enough size need ⌝ }
 {
     match need {
         Some(least) => least <= u32::from(size),

@@ -1,7 +1,8 @@
 // A window: a stretch of the store below, as a store of its own.
 ghost use mathlib.Core.Path.{_≡_};
 ghost use Prim.Native.Nat.{_+_};
-ghost use Rattle.store.specs.Stores.{fit-answer, window-fits, window-image, led};
+ghost use Rattle.store.specs.Stores.{fit-answer, window-fits, window-image};
+ghost use Rattle.store.specs.Layers.{led};
 use crate::SECTOR;
 use crate::Store;
 use crate::faults::past_end;

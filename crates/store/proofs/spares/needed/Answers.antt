@@ -2,7 +2,8 @@ use mathlib.Core.Path.{sym, ap, _∙_}
 use Prim.Native.Nat.{_+_, max}
 use lib.ListN.{getD, drop}
 use Rattle.std.proofs.shelf.Lists.{at-drop-more, at-drop-all}
-use Rattle.store.specs.Stores.{least-below, spares-of}
+use Rattle.store.specs.Stores.{spares-of}
+use Rattle.store.specs.Layers.{least-below}
 use Rattle.store.proofs.Sparing.{no-pair, needed-some}
 use Rattle.store.proofs.spares.needed.Needs as need
 

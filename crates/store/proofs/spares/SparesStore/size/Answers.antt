@@ -1,7 +1,6 @@
-use mathlib.Core.Path.{sym, _∙_}
+use mathlib.Core.Bool.{true, false}
 use lib.ListN.{length}
 use Rattle.std.specs.Of.Vec.{vec-items}
-use Rattle.store.specs.Stores.{served}
 use Rattle.store.proofs.Layered.{size-fits, size-misfits}
 use Rattle.store.proofs.Sparing as sparing
 use Rattle.store.proofs.spares.SparesStore.size.Needs as need
@@ -9,17 +8,19 @@ use Rattle.store.proofs.spares.SparesStore.size.Needs as need
 pub returns-then-enough : need.returns-then-enough
 returns-then-enough g c =
     let s = c .args .self .now in
+    let v = s .visible in
     let ps = vec-items (s .pairs) in
     let below = g .S·Store .image (s .below) in
     let n = length below in
-    size-fits (sparing.fits (s .visible) ps n) below (s .visible) (served ps)
-    (sym (sparing.enough-fits (s .visible) ps n (c .size .result) (s .need) (c .size .ensures) (s .known)) ∙ sym (c .if-enough .ensures tt))
+    size-fits (sparing.fits v ps n) below v (sparing.serve v ps)
+    (sparing.enough-fits v ps n (c .size .result) (s .need) true (c .size .ensures) (s .known) (c .if-enough .ensures tt))
 
 pub returns-else-enough : need.returns-else-enough
 returns-else-enough g c =
     let s = c .args .self .now in
+    let v = s .visible in
     let ps = vec-items (s .pairs) in
     let below = g .S·Store .image (s .below) in
     let n = length below in
-    size-misfits (sparing.fits (s .visible) ps n) below (s .visible) (served ps)
-    (sym (sparing.enough-fits (s .visible) ps n (c .size .result) (s .need) (c .size .ensures) (s .known)) ∙ sym (c .if-enough .ensures tt))
+    size-misfits (sparing.fits v ps n) below v (sparing.serve v ps)
+    (sparing.enough-fits v ps n (c .size .result) (s .need) false (c .size .ensures) (s .known) (c .if-enough .ensures tt))
