@@ -2,3 +2,4 @@ pub mod Tabled
 pub mod Layered
 pub mod Windows
 pub mod Sparing
+pub mod Stubs

@@ -3,6 +3,9 @@ ghost use mathlib.Core.Path.{_≡_};
 ghost use Rattle.store.specs.Layers.{risen-answer};
 use model::types::Fault;
 
+#[cfg(test)]
+mod tests;
+
 // The answer one layer up: a dead sector keeps its place and counts one layer more, up to 255.
 pub(crate) fn risen(answer: Result<(), Fault>) -> Result<(), Fault>
     ensures { λ r. ⌜ r ≡ risen-answer answer ⌝ }
