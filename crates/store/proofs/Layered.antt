@@ -8,14 +8,13 @@ use native.Mathlib.Omega.{arith}
 use lib.Dec.{ltb}
 use lib.ListN.{length, getD, set}
 use Rattle.std.proofs.shelf.Lists.{length-set, getD-set-same, getD-set-other}
-use Rattle.std.proofs.shelf.Tests.{ltb-true}
 use Rattle.std.specs.declared.result.Result.{Result}
 use Rattle.std.specs.declared.result.Result.the-variants.{Ok, Err}
 use Rattle.model.specs.declared.types.Fault.{Fault}
 use Rattle.model.specs.Image.{Image, Sector, bytes, dead, whole, whole-sector, past-end-at, seen, look, done-or-fault, access, bytes-or, filled, stored, put, risen}
 use Rattle.store.specs.Stores.{fit-answer, laid, layered}
-use Rattle.store.specs.Layers.{led, risen-answer}
-use Rattle.store.proofs.Tabled.{length-table, put-table, put-at, put-refused, look-table, look-inside, whole-table, getD-whole, length-whole, access-at, filled-at}
+use Rattle.store.specs.Layers.{risen-answer, Leads, Ends}
+use Rattle.store.proofs.Tabled.{length-table, put-table, put-at, put-refused, look-table, look-inside, look-outside, whole-table, getD-whole, length-whole, access-at, filled-at}
 
 -- one sector up ----------------------------------------------------------------------------------------------------
 
@@ -130,42 +129,28 @@ module _ (fits : ℕ → Bool) (c : ℕ) (serve : ℕ → ℕ) (sound : (n : ℕ
   pub layer-inside : (i : Image) (s : ℕ) → s < length (up i) → serve s < length i
   layer-inside i s l = let h = has i s l in sound (length i) (h .0) .inside s (h .1)
 
-  -- an access that is led on to p below
-  module _ (i : Image) (s p : ℕ) (e : Ok p ≡ led (up i) serve s) where
-    led-on : (fits (length i) ≡ true) × (s < c) × (p ≡ serve s)
-    led-on = go (ltb s (length (up i))) refl e
-      where
-        ok-ok : (x y : ℕ) → _≡_ {A = Result ℕ Fault} (Ok x) (Ok y) → x ≡ y
-        ok-ok x y q = cc
+  -- an access at a sector of the layer goes on to the one that serves it, and any other ends in the layer
+  pub layer-leads : (i : Image) (s : ℕ) → s < length (up i) → Leads up i s (serve s)
+  layer-leads i s l =
+      let h = has i s l in
+      let v = sound (length i) (h .0) in
+      let e : layered i c serve ≡ up i = ap (λ b. laid b (layered i c serve)) (sym (h .0)) in
+      record {
+        answer = ap (λ j. access j s) (sym e) ∙ access-layered i c serve v s (h .1);
+        reads = λ old. ap (λ j. filled j s old) (sym e) ∙ filled-layered i c serve v s (h .1) old;
+        writes =
+            λ new.
+            ap (λ j. put j s new) (sym e)
+            ∙ (sym (put-layered i c serve v s (h .1) new)
+            ∙ (ap (λ b. laid b (layered (put i (serve s) new) c serve)) (sym (h .0))
+            ∙ ap (λ n. laid (fits n) (layered (put i (serve s) new) c serve)) (sym (length-put i (serve s) new))));
+      }
 
-        ok-err : (x : ℕ) (f : Fault) → _≡_ {A = Result ℕ Fault} (Ok x) (Err f) → ⊥
-        ok-err x f q = let z : _≡_ {A = ℕ} 0 1 = cc in omega arith
-
-        go : (b : Bool) → ltb s (length (up i)) ≡ b → Ok p ≡ cond b (Ok (serve s)) (Err (past-end-at s)) → (fits (length i) ≡ true) × (s < c) × (p ≡ serve s)
-        go true q k = let h = has i s (ltb-true s (length (up i)) q) in (h .0, h .1, ok-ok p (serve s) k)
-        go false q k = absurd (ok-err p (past-end-at s) k)
-
-    whole-up : layered i c serve ≡ up i
-    whole-up = ap (λ b. laid b (layered i c serve)) (sym (led-on .0))
-
-    serves : Serves (length i) c serve
-    serves = sound (length i) (led-on .0)
-
-    pub layer-access : {q r : Result (Unit {0}) Fault} → r ≡ risen-answer q → q ≡ access i p → r ≡ access (up i) s
-    layer-access up-is below-is =
-        up-is
-        ∙ (ap risen-answer (below-is ∙ ap (access i) (led-on .2))
-        ∙ (sym (access-layered i c serve serves s (led-on .1)) ∙ ap (λ j. access j s) whole-up))
-
-    pub layer-filled : (old : List ℕ) {now : List ℕ} → now ≡ filled i p old → now ≡ filled (up i) s old
-    layer-filled old is =
-        is
-        ∙ (ap (λ t. filled i t old) (led-on .2)
-        ∙ (sym (filled-layered i c serve serves s (led-on .1) old) ∙ ap (λ j. filled j s old) whole-up))
-
-    pub layer-put : (new : List ℕ) {j : Image} → j ≡ put i p new → up j ≡ put (up i) s new
-    layer-put new is =
-        ap up (is ∙ ap (λ t. put i t new) (led-on .2))
-        ∙ (ap (λ n. laid (fits n) (layered (put i (serve s) new) c serve)) (length-put i (serve s) new)
-        ∙ (ap (λ b. laid b (layered (put i (serve s) new) c serve)) (led-on .0)
-        ∙ (put-layered i c serve serves s (led-on .1) new ∙ ap (λ j. put j s new) whole-up)))
+  pub layer-ends : (i : Image) (s : ℕ) → length (up i) ≤ s → Ends (up i) s (past-end-at s)
+  layer-ends i s l =
+      let e = look-outside (up i) s l in
+      record {
+        answer = access-at (up i) s (Err (past-end-at s)) e;
+        reads = λ old. filled-at (up i) s old (Err (past-end-at s)) e;
+        writes = λ new. put-at (up i) s new (Err (past-end-at s)) e;
+      }

@@ -3,7 +3,7 @@ ghost use mathlib.Core.Bool.{_||_};
 ghost use mathlib.Core.Path.{_≡_};
 ghost use Rattle.std.specs.Of.Vec.{vec-items};
 ghost use Rattle.store.specs.Stores.{fit-answer, member, sectors-of, spares-of, pairs-fit, spares-fit, served, spares-image};
-ghost use Rattle.store.specs.Layers.{led, needed, enough};
+ghost use Rattle.store.specs.Layers.{Led, needed, enough};
 use crate::MOST_LISTED;
 use crate::SECTOR;
 use crate::Store;
@@ -67,7 +67,7 @@ impl<S: Store> Spares<S> {
 
     // The sector below that serves a sector.
     fn place(&self, sector: u16) -> Result<u16, Fault>
-        ensures { λ r. ⌜ r ≡ led (spares-image (image (now (self .entry) .below)) (now (self .entry) .visible) (vec-items (now (self .entry) .pairs))) (served (vec-items (now (self .entry) .pairs))) sector ⌝ }
+        ensures { λ r. ⌜ Led (λ below. spares-image below (now (self .entry) .visible) (vec-items (now (self .entry) .pairs))) (image (now (self .entry) .below)) sector r ⌝ }
     {
         if sector < self.size() {
             Ok(serving(&self.pairs, sector))

@@ -2,7 +2,7 @@
 ghost use mathlib.Core.Path.{_≡_};
 ghost use Prim.Native.Nat.{_+_};
 ghost use Rattle.store.specs.Stores.{fit-answer, window-fits, window-image};
-ghost use Rattle.store.specs.Layers.{led};
+ghost use Rattle.store.specs.Layers.{Led};
 use crate::SECTOR;
 use crate::Store;
 use crate::faults::past_end;
@@ -52,7 +52,7 @@ impl<S: Store> Window<S> {
 
     // The sector below that a sector of the window is.
     fn place(&self, sector: u16) -> Result<u16, Fault>
-        ensures { λ r. ⌜ r ≡ led (window-image (image (now (self .entry) .below)) (now (self .entry) .first) (now (self .entry) .count)) (λ s. now (self .entry) .first + s) sector ⌝ }
+        ensures { λ r. ⌜ Led (λ below. window-image below (now (self .entry) .first) (now (self .entry) .count)) (image (now (self .entry) .below)) sector r ⌝ }
     {
         if sector < self.size() {
             Ok(self.first + sector)
