@@ -100,9 +100,6 @@ length-laid false below c serve = refl
 pub size-fits : (b : Bool) (below : Image) (c : ℕ) (serve : ℕ → ℕ) → b ≡ true → c ≡ length (laid b (layered below c serve))
 size-fits b below c serve e = sym (length-laid b below c serve ∙ ap (λ x. cond x c 0) e)
 
-pub size-misfits : (b : Bool) (below : Image) (c : ℕ) (serve : ℕ → ℕ) → b ≡ false → 0 ≡ length (laid b (layered below c serve))
-size-misfits b below c serve e = sym (length-laid b below c serve ∙ ap (λ x. cond x c 0) e)
-
 pub fit-true : (b : Bool) → Ok tt ≡ fit-answer b → b ≡ true
 fit-true true e = refl
 fit-true false e = let z : _≡_ {A = ℕ} 0 1 = cc in absurd (omega arith)

@@ -9,12 +9,9 @@ use lib.Dec.{ltb, leb, eqb}
 use lib.ListN.{length, take, drop}
 use Rattle.std.proofs.shelf.Lists.{take-rest}
 use Rattle.std.proofs.shelf.Tests.{ltb-true, lt-ltb, le-ltb, leb-true, le-leb, lt-leb, eqb-true, eq-eqb, ne-eqb, cases-eq, cases-lt, and-parts, not-true, both-ways}
-use Rattle.std.specs.declared.option.Option.{Option}
-use Rattle.std.specs.declared.option.Option.the-variants.{Some, None}
 use Rattle.model.specs.Image.{all}
 use Rattle.store.specs.declared.spares.Spare.{Spare}
 use Rattle.store.specs.Stores.{most-listed, member, distinct, sectors-of, spares-of, pairs-fit, served}
-use Rattle.store.specs.Layers.{least-below, needed, enough}
 use Rattle.store.proofs.Layered.{Serves}
 
 -- what stands past the end of a list of pairs
@@ -142,14 +139,16 @@ leb-max v s n = go (cases-lt n v) (cases-lt s n)
     go (inr x) (inl y) = le-leb (max v (s + 1)) n (omega arith) ∙ (sym (lt-ltb s n y) ∙ ap (λ q. q && ltb s n) (sym (le-leb v n x)))
     go (inr x) (inr y) = lt-leb (max v (s + 1)) n (omega arith) ∙ (sym (le-ltb s n y) ∙ ap (λ q. q && ltb s n) (sym (le-leb v n x)))
 
+-- the fewest sectors below that have v sectors and the spares
+abbrev pub least-below : ℕ → List ℕ → ℕ
+least-below v [] = v
+least-below v (s ∷ ss) = least-below (max v (s + 1)) ss
+
 least-fits : (v : ℕ) (ss : List ℕ) (n : ℕ) → (leb v n && all (λ s. ltb s n) ss) ≡ leb (least-below v ss) n
 least-fits v [] n = and-true (leb v n)
 least-fits v (s ∷ ss) n =
     and-and (leb v n) (ltb s n) (all (λ s. ltb s n) ss)
     ∙ (ap (λ q. q && all (λ s. ltb s n) ss) (sym (leb-max v s n)) ∙ least-fits (max v (s + 1)) ss n)
-
-pub needed-some : (v : ℕ) (ps : List Spare) (k : ℕ) → true ≡ pairs-fit v ps → k ≡ least-below v (spares-of ps) → Some k ≡ needed v ps
-needed-some v ps k h q = ap Some q ∙ ap (λ b. cond b (Some (least-below v (spares-of ps))) None) h
 
 -- visible sectors and pairs as the layer keeps them
 module _ (v : ℕ) (ps : List Spare) where
@@ -159,13 +158,11 @@ module _ (v : ℕ) (ps : List Spare) where
   abbrev pub fits : ℕ → Bool
   fits n = pairs-fit v ps && leb v n && all (λ s. ltb s n) (spares-of ps)
 
-  -- whether m sectors below are enough is whether all fits
-  pub enough-fits : (n m : ℕ) (need : Option ℕ) (b : Bool) → m ≡ n → need ≡ needed v ps → b ≡ enough m need → fits n ≡ b
-  enough-fits n m need b p q h = sym (h ∙ (ap (λ x. enough x need) p ∙ (ap (enough n) q ∙ go (pairs-fit v ps))))
-    where
-      go : (q : Bool) → enough n (cond q (Some (least-below v (spares-of ps))) None) ≡ (q && leb v n && all (λ s. ltb s n) (spares-of ps))
-      go true = sym (least-fits v (spares-of ps) n)
-      go false = refl
+  pub enough-least : (least : ℕ) → true ≡ pairs-fit v ps → least ≡ least-below v (spares-of ps) → (n : ℕ) → leb least n ≡ fits n
+  enough-least least h e n =
+      ap (λ k. leb k n) e
+      ∙ (sym (least-fits v (spares-of ps) n)
+      ∙ ap (λ q. q && leb v n && all (λ s. ltb s n) (spares-of ps)) h)
 
 -- no two visible sectors are served by one -------------------------------------------------------------------------
 

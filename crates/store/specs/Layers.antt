@@ -1,8 +1,8 @@
 -- What a layer computes on the way to its answers.
 use mathlib.Core.Path.{_≡_}
-use mathlib.Core.Bool.{Bool, true, false, cond}
-use mathlib.Core.List.{List, [], _∷_}
-use Prim.Native.Nat.{ℕ, _+_, min, max}
+use mathlib.Core.Bool.{Bool, false}
+use mathlib.Core.List.{List}
+use Prim.Native.Nat.{ℕ, _+_, min}
 use lib.Dec.{leb}
 use Rattle.std.specs.declared.option.Option.{Option}
 use Rattle.std.specs.declared.option.Option.the-variants.{Some, None}
@@ -11,8 +11,6 @@ use Rattle.std.specs.declared.result.Result.the-variants.{Ok, Err}
 use Rattle.model.specs.Sizes.{deepest}
 use Rattle.model.specs.Image.{Image, access, filled, put}
 use Rattle.model.specs.declared.types.Fault.{Fault}
-use Rattle.store.specs.declared.spares.Spare.{Spare}
-use Rattle.store.specs.Stores.{spares-of, pairs-fit}
 
 -- an answer of the store below, one layer up
 abbrev pub risen-answer : Result (Unit {0}) Fault → Result (Unit {0}) Fault
@@ -37,15 +35,7 @@ abbrev pub Led : (Image → Image) → Image → ℕ → Result ℕ Fault → Ty
 Led layer below s (Ok p) = Leads layer below s p
 Led layer below s (Err f) = Ends (layer below) s f
 
--- the fewest sectors below that have v sectors and the spares
-abbrev pub least-below : ℕ → List ℕ → ℕ
-least-below v [] = v
-least-below v (s ∷ ss) = least-below (max v (s + 1)) ss
-
--- the fewest that spares can do with; none are enough where the pairs themselves do not fit
-abbrev pub needed : ℕ → List Spare → Option ℕ
-needed v ps = cond (pairs-fit v ps) (Some (least-below v (spares-of ps))) None
-
+-- n sectors below are enough for a need; where there is none, no number is
 abbrev pub enough : ℕ → Option ℕ → Bool
 enough n None = false
 enough n (Some least) = leb least n

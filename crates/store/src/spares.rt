@@ -1,9 +1,11 @@
 // Spares: a store of which some sectors are served by others that lie past its end.
 ghost use mathlib.Core.Bool.{_||_};
 ghost use mathlib.Core.Path.{_≡_};
+ghost use lib.ListN.{length};
 ghost use Rattle.std.specs.Of.Vec.{vec-items};
+ghost use Rattle.model.specs.Image.{Image};
 ghost use Rattle.store.specs.Stores.{fit-answer, member, sectors-of, spares-of, pairs-fit, spares-fit, served, spares-image};
-ghost use Rattle.store.specs.Layers.{Led, needed, enough};
+ghost use Rattle.store.specs.Layers.{Led, enough};
 use crate::MOST_LISTED;
 use crate::SECTOR;
 use crate::Store;
@@ -19,20 +21,21 @@ pub struct Spare {
     pub spare: u16,
 }
 
-// The first `visible` sectors of the store below, those in a pair served by their spares.
+// The first `visible` sectors of the store below; a paired one is served by its spare.
 #[derive(Drop)]
 pub struct Spares<S> {
     below: S,
     visible: u16,
     pairs: Vec<Spare>,
-    // the sectors that the store below must have; none where the pairs do not fit one another
+    // the sectors that the store below must have, or none where the pairs do not fit one another: an access then need not
+    // look at them all again
     need: Option<u32>,
-    ghost known: { need ≡ needed visible (vec-items pairs) },
+    ghost known: { (i : Image) → enough (length i) need ≡ spares-fit i visible (vec-items pairs) },
 }
 
 impl<S: Store> Spares<S> {
-    // At most eight pairs; the sectors differ and are visible; the spares differ, and lie past those and in the store
-    // below.
+    // Whether there are at most eight pairs, of visible sectors that differ, with spares that differ, are not visible and
+    // stand in the store below, which has the visible sectors too.
     pub fn fits(below: &S, visible: u16, pairs: &[Spare]) -> Result<(), Refusal>
         ensures { λ r. ⌜ r ≡ fit-answer (spares-fit (image (now (below .entry))) visible (now (pairs .entry))) ⌝ }
     {
@@ -113,7 +116,7 @@ fn serving(pairs: &[Spare], sector: u16) -> u16
 
 // The sectors that the store below must have for the pairs, if they fit one another.
 fn needed(visible: u16, pairs: &[Spare]) -> Option<u32>
-    ensures { λ r. ⌜ r ≡ needed visible (now (pairs .entry)) ⌝ }
+    ensures { λ r. ⌜ ((i : Image) → enough (length i) r ≡ spares-fit i visible (now (pairs .entry))) ⌝ }
 {
     if !agree(visible, pairs) {
         return None;

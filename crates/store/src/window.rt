@@ -19,7 +19,7 @@ pub struct Window<S> {
 }
 
 impl<S: Store> Window<S> {
-    // The store below has every sector of the window.
+    // Whether the store below has every sector of the window.
     pub fn fits(below: &S, first: u16, count: u16) -> Result<(), Refusal>
         ensures { λ r. ⌜ r ≡ fit-answer (window-fits (image (now (below .entry))) first count) ⌝ }
     {

@@ -1,10 +1,9 @@
 use mathlib.Core.Path.{sym, ap, _∙_}
 use Prim.Native.Nat.{_+_, max}
-use lib.ListN.{getD, drop}
+use lib.ListN.{length, getD, drop}
 use Rattle.std.proofs.shelf.Lists.{at-drop-more, at-drop-all}
 use Rattle.store.specs.Stores.{spares-of}
-use Rattle.store.specs.Layers.{least-below}
-use Rattle.store.proofs.Sparing.{no-pair, needed-some}
+use Rattle.store.proofs.Sparing.{no-pair, least-below, enough-least}
 use Rattle.store.proofs.spares.needed.Needs as need
 
 pub loop-pair-again : need.loop-pair-again
@@ -20,5 +19,5 @@ returns c =
     let v = c .args .visible in
     let ps = c .args .pairs .now in
     let k = c .loop-pair .least in
-    needed-some v ps k (c .if-not-agree .ensures tt)
-    (sym (at-drop-all (λ qs. least-below k (spares-of qs)) ps (c .loop-pair .pair-index) (c .loop-pair-test .left)) ∙ c .loop-pair .inv)
+    let e = sym (at-drop-all (λ qs. least-below k (spares-of qs)) ps (c .loop-pair .pair-index) (c .loop-pair-test .left)) ∙ c .loop-pair .inv in
+    λ i. enough-least v ps k (c .if-not-agree .ensures tt) e (length i)

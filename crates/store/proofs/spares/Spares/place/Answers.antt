@@ -1,4 +1,4 @@
-use mathlib.Core.Path.{sym, ap, subst, _∙_}
+use mathlib.Core.Path.{_≡_, sym, subst}
 use Prim.Native.Nat.{_≤_, _<_}
 use Rattle.std.specs.Of.Vec.{vec-items}
 use Rattle.store.specs.Stores.{served, spares-image}
@@ -13,8 +13,8 @@ returns-then-sector-size g c =
     let ps = vec-items (c .args .self .now .pairs) in
     let s = c .args .sector in
     let below = g .S·Store .image (c .args .self .now .below) in
-    subst (λ p. Leads (λ i. spares-image i v ps) below s p)
-    (sym (c .serving .ensures ∙ ap (λ qs. served qs s) (c .deref .ensures .value)))
+    let e : served ps s ≡ c .serving .result = cc in
+    subst (λ p. Leads (λ i. spares-image i v ps) below s p) e
     (layer-leads (sparing.fits v ps) v (sparing.serve v ps) (sparing.sound v ps) below s
     (subst (λ x. s < x) (c .size .ensures) (c .if-sector-size .taken)))
 
