@@ -13,7 +13,7 @@ use Rattle.std.specs.declared.result.Result.the-variants.{Ok, Err}
 use Rattle.model.specs.declared.types.Fault.{Fault}
 use Rattle.model.specs.Image.{Image, Sector, bytes, dead, whole, whole-sector, past-end-at, seen, look, done-or-fault, access, bytes-or, filled, stored, put, risen}
 use Rattle.store.specs.Stores.{fit-answer, laid, layered}
-use Rattle.store.specs.Layers.{risen-answer, Leads, Ends}
+use Rattle.store.specs.Through.{risen-answer, Leads, Ends}
 use Rattle.store.proofs.Tabled.{length-table, put-table, put-at, put-refused, look-table, look-inside, look-outside, whole-table, getD-whole, length-whole, access-at, filled-at}
 
 -- one sector up ----------------------------------------------------------------------------------------------------

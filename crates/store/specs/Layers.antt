@@ -1,41 +1,12 @@
--- What a layer computes on the way to its answers.
-use mathlib.Core.Path.{_≡_}
-use mathlib.Core.Bool.{Bool, false}
-use mathlib.Core.List.{List}
-use Prim.Native.Nat.{ℕ, _+_, min}
-use lib.Dec.{leb}
-use Rattle.std.specs.declared.option.Option.{Option}
-use Rattle.std.specs.declared.option.Option.the-variants.{Some, None}
-use Rattle.std.specs.declared.result.Result.{Result}
-use Rattle.std.specs.declared.result.Result.the-variants.{Ok, Err}
-use Rattle.model.specs.Sizes.{deepest}
-use Rattle.model.specs.Image.{Image, access, filled, put}
-use Rattle.model.specs.declared.types.Fault.{Fault}
+-- What each layer means, over what the store below means: the image that its fields make.
+use Rattle.std.specs.Of.Vec.{vec-items}
+use Rattle.model.specs.Image.{Image}
+use Rattle.store.specs.Stores.{window-image, spares-image}
+use Rattle.store.specs.declared.window.Window.{Window}
+use Rattle.store.specs.declared.spares.Spares.{Spares}
 
--- an answer of the store below, one layer up
-abbrev pub risen-answer : Result (Unit {0}) Fault → Result (Unit {0}) Fault
-risen-answer (Ok done) = Ok done
-risen-answer (Err f) = Err (record { cause = f .cause; place = f .place; depth = min (f .depth + 1) deepest })
+abbrev pub window-over : {S : Type 0} → (S → Image) → Window S → Image
+window-over image w = window-image (image (w .below)) (w .first) (w .count)
 
--- An access at s of the layer goes on to p below: it meets the same fault, one layer deeper, or reads the same bytes, and
--- writes no other sector of the layer.
-pub record Leads (layer : Image → Image) (below : Image) (s p : ℕ) : Type 0 where
-  pub answer : access (layer below) s ≡ risen-answer (access below p)
-  pub reads : (old : List ℕ) → filled (layer below) s old ≡ filled below p old
-  pub writes : (new : List ℕ) → put (layer below) s new ≡ layer (put below p new)
-
--- an access at s ends in the layer: it meets the fault f, and neither reads nor writes
-pub record Ends (i : Image) (s : ℕ) (f : Fault) : Type 0 where
-  pub answer : access i s ≡ Err f
-  pub reads : (old : List ℕ) → filled i s old ≡ old
-  pub writes : (new : List ℕ) → put i s new ≡ i
-
--- where an access at s goes
-abbrev pub Led : (Image → Image) → Image → ℕ → Result ℕ Fault → Type 0
-Led layer below s (Ok p) = Leads layer below s p
-Led layer below s (Err f) = Ends (layer below) s f
-
--- n sectors below are enough for a need; where there is none, no number is
-abbrev pub enough : ℕ → Option ℕ → Bool
-enough n None = false
-enough n (Some least) = leb least n
+abbrev pub spares-over : {S : Type 0} → (S → Image) → Spares S → Image
+spares-over image s = spares-image (image (s .below)) (s .visible) (vec-items (s .pairs))

@@ -1,2 +1,3 @@
 pub mod Stores
+pub mod Through
 pub mod Layers

@@ -1,6 +1,6 @@
 // What every layer does with an answer of the store below.
 ghost use mathlib.Core.Path.{_≡_};
-ghost use Rattle.store.specs.Layers.{risen-answer};
+ghost use Rattle.store.specs.Through.{risen-answer};
 use model::types::Fault;
 
 #[cfg(test)]

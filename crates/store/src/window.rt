@@ -1,8 +1,8 @@
 // A window: a stretch of the store below, as a store of its own.
 ghost use mathlib.Core.Path.{_≡_};
-ghost use Prim.Native.Nat.{_+_};
 ghost use Rattle.store.specs.Stores.{fit-answer, window-fits, window-image};
-ghost use Rattle.store.specs.Layers.{Led};
+ghost use Rattle.store.specs.Through.{Led};
+ghost use Rattle.store.specs.Layers.{window-over};
 use crate::SECTOR;
 use crate::Store;
 use crate::faults::past_end;
@@ -33,7 +33,7 @@ impl<S: Store> Window<S> {
     // Takes the store below. A window that does not fit has no sector.
     pub fn lay(below: S, first: u16, count: u16) -> Window<S>
         ensures below { λ r. ⌜ r .below ≡ below ⌝ }
-        ensures image { λ r. ⌜ window-image (image (r .below)) (r .first) (r .count) ≡ window-image (image below) first count ⌝ }
+        ensures image { λ r. ⌜ window-over image r ≡ window-image (image below) first count ⌝ }
     {
         Window {
             below,
@@ -44,7 +44,8 @@ impl<S: Store> Window<S> {
 
     // Hands the store below back.
     pub fn into_below(self) -> S
-        ensures { λ r. ⌜ r ≡ self .below ⌝ }
+        ensures below { λ r. ⌜ r ≡ self .below ⌝ }
+        ensures image { λ r. ⌜ window-over image self ≡ window-image (image r) (self .first) (self .count) ⌝ }
     {
         let Window { below, .. } = self;
         below
@@ -63,7 +64,7 @@ impl<S: Store> Window<S> {
 }
 
 pub impl<S: Store> Store for Window<S> as WindowStore {
-    ghost image = { λ w. window-image (S·Store .image (w .below)) (w .first) (w .count) };
+    ghost image = { window-over (S·Store .image) };
 
     fn size(&self) -> u16 {
         match Window::fits(&self.below, self.first, self.count) {

@@ -2,7 +2,7 @@ use mathlib.Core.Path.{_≡_, sym, subst}
 use Prim.Native.Nat.{_≤_, _<_}
 use Rattle.std.specs.Of.Vec.{vec-items}
 use Rattle.store.specs.Stores.{served, spares-image}
-use Rattle.store.specs.Layers.{Leads, Ends}
+use Rattle.store.specs.Through.{Leads, Ends}
 use Rattle.store.proofs.Layered.{layer-leads, layer-ends}
 use Rattle.store.proofs.Sparing as sparing
 use Rattle.store.proofs.spares.Spares.place.Needs as need

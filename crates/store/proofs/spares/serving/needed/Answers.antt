@@ -4,7 +4,7 @@ use lib.ListN.{length, getD, drop}
 use Rattle.std.proofs.shelf.Lists.{at-drop-more, at-drop-all}
 use Rattle.store.specs.Stores.{spares-of}
 use Rattle.store.proofs.Sparing.{no-pair, least-below, enough-least}
-use Rattle.store.proofs.spares.needed.Needs as need
+use Rattle.store.proofs.spares.serving.needed.Needs as need
 
 pub loop-pair-again : need.loop-pair-again
 loop-pair-again c =

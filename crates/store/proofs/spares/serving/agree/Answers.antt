@@ -4,8 +4,8 @@ use Prim.Native.Nat.{_+_}
 use lib.ListN.{getD, drop}
 use Rattle.std.proofs.shelf.Lists.{at-drop-more, at-drop-all}
 use Rattle.store.proofs.Sparing.{no-pair, clash-rest, agreeing, fit-agreeing, clashes-first, sector-past, spare-under, passes-first}
-use Rattle.store.proofs.spares.agree.Needs as need
-use Rattle.store.proofs.spares.agree.Needs.{then-pair-visible·by·then-pair-visible, then-pair-visible·by·else-pair-visible·then-pair-visible-2, then-pair-visible·by·else-pair-visible·else-pair-visible-2·then-clashes}
+use Rattle.store.proofs.spares.serving.agree.Needs as need
+use Rattle.store.proofs.spares.serving.agree.Needs.{then-pair-visible·by·then-pair-visible, then-pair-visible·by·else-pair-visible·then-pair-visible-2, then-pair-visible·by·else-pair-visible·else-pair-visible-2·then-clashes}
 
 pub returns-then-pair-visible : need.returns-then-pair-visible
 returns-then-pair-visible c =

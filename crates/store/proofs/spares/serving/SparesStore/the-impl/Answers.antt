@@ -1,7 +1,7 @@
 use Rattle.std.specs.Of.Vec.{vec-items}
 use Rattle.store.proofs.Layered.{layer-whole}
 use Rattle.store.proofs.Sparing as sparing
-use Rattle.store.proofs.spares.SparesStore.the-impl.Needs as need
+use Rattle.store.proofs.spares.serving.SparesStore.the-impl.Needs as need
 
 pub wholeness-law : need.wholeness-law
 wholeness-law g s =

@@ -2,7 +2,7 @@ use mathlib.Core.Bool.{_||_}
 use mathlib.Core.Path.{_≡_}
 use lib.ListN.{drop}
 use Rattle.store.specs.Stores.{member, sectors-of, spares-of}
-use Rattle.store.proofs.spares.clashes.Given as given
+use Rattle.store.proofs.spares.serving.clashes.Given as given
 
 -- whatever was passed does not clash
 abbrev pub Inv-loop-other : given.InvT-loop-other

@@ -3,8 +3,8 @@ use Prim.Native.Nat.{_+_}
 use lib.ListN.{getD, drop}
 use Rattle.std.proofs.shelf.Lists.{at-drop-more, at-drop-all}
 use Rattle.store.proofs.Sparing.{no-pair, clash, clash-sector, clash-spare, clash-on}
-use Rattle.store.proofs.spares.clashes.Needs as need
-use Rattle.store.proofs.spares.clashes.Needs.{then-other-pair·by·then-other-pair, then-other-pair·by·else-other-pair·then-other-pair-2}
+use Rattle.store.proofs.spares.serving.clashes.Needs as need
+use Rattle.store.proofs.spares.serving.clashes.Needs.{then-other-pair·by·then-other-pair, then-other-pair·by·else-other-pair·then-other-pair-2}
 
 pub returns-then-other-pair : need.returns-then-other-pair
 returns-then-other-pair c =

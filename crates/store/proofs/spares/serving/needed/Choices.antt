@@ -2,7 +2,7 @@ use mathlib.Core.Path.{_≡_}
 use lib.ListN.{drop}
 use Rattle.store.specs.Stores.{spares-of}
 use Rattle.store.proofs.Sparing.{least-below}
-use Rattle.store.proofs.spares.needed.Given as given
+use Rattle.store.proofs.spares.serving.needed.Given as given
 
 -- what is needed so far, and for the spares to come
 abbrev pub Inv-loop-pair : given.InvT-loop-pair

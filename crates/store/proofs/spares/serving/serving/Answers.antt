@@ -4,7 +4,7 @@ use Rattle.std.proofs.shelf.Lists.{at-drop-more, at-drop-all}
 use Prim.Native.Nat.{_+_}
 use Rattle.store.specs.Stores.{served}
 use Rattle.store.proofs.Sparing.{no-pair, served-here, served-on}
-use Rattle.store.proofs.spares.serving.Needs as need
+use Rattle.store.proofs.spares.serving.serving.Needs as need
 
 pub returns-then-pair-sector : need.returns-then-pair-sector
 returns-then-pair-sector c =

@@ -2,7 +2,7 @@ use lib.ListN.{length}
 use Rattle.std.specs.Of.Vec.{vec-items}
 use Rattle.store.proofs.Layered.{size-fits}
 use Rattle.store.proofs.Sparing as sparing
-use Rattle.store.proofs.spares.SparesStore.size.Needs as need
+use Rattle.store.proofs.spares.serving.SparesStore.size.Needs as need
 
 pub returns-then-enough : need.returns-then-enough
 returns-then-enough g c =
