@@ -2,19 +2,16 @@
 use mathlib.Core.Path.{_≡_, refl, sym, ap, subst, _∙_}
 use mathlib.Core.Bool.{Bool, true, false, cond}
 use mathlib.Core.List.{List}
-use Prim.Native.Nat.{ℕ, _+_, _≤_, _<_}
+use Prim.Native.Nat.{ℕ, _≤_, _<_}
 use native.Mathlib.Nat.{le-trans}
 use native.Mathlib.Omega.{arith}
-use lib.Dec.{ltb}
 use lib.ListN.{length, getD, set}
-use Rattle.std.proofs.shelf.Lists.{length-set, getD-set-same, getD-set-other}
-use Rattle.std.specs.declared.result.Result.{Result}
+use Rattle.std.proofs.shelf.Lists.{getD-set-same, getD-set-other}
 use Rattle.std.specs.declared.result.Result.the-variants.{Ok, Err}
-use Rattle.model.specs.declared.types.Fault.{Fault}
-use Rattle.model.specs.Image.{Image, Sector, bytes, dead, whole, whole-sector, past-end-at, seen, look, done-or-fault, access, bytes-or, filled, stored, put, risen}
+use Rattle.model.specs.Image.{Image, Sector, bytes, dead, whole, whole-sector, past-end-at, seen, look, done-or-fault, access, bytes-or, filled, put, risen}
 use Rattle.store.specs.Stores.{fit-answer, laid, layered}
 use Rattle.store.specs.Through.{risen-answer, Leads, Ends}
-use Rattle.store.proofs.Tabled.{length-table, put-table, put-at, put-refused, look-table, look-inside, look-outside, whole-table, getD-whole, length-whole, access-at, filled-at}
+use Rattle.store.proofs.Tabled.{length-table, length-put, put-table, put-at, put-refused, look-table, look-inside, look-outside, whole-table, getD-whole, length-whole, access-at, filled-at}
 
 -- one sector up ----------------------------------------------------------------------------------------------------
 
@@ -29,13 +26,6 @@ access-risen (dead p d) = refl
 filled-risen : (x : Sector) (old : List ℕ) → bytes-or (seen (risen x)) old ≡ bytes-or (seen x) old
 filled-risen (bytes b) old = refl
 filled-risen (dead p d) old = refl
-
-length-put : (i : Image) (s : ℕ) (new : List ℕ) → length (put i s new) ≡ length i
-length-put i s new = go (look i s)
-  where
-    go : (r : Result (List ℕ) Fault) → length (stored r i s new) ≡ length i
-    go (Ok old) = length-set i s (bytes new)
-    go (Err f) = refl
 
 -- a layer that fits ------------------------------------------------------------------------------------------------
 

@@ -1,5 +1,5 @@
 -- Pairs: when they fit one another and the store below, and that two visible sectors are never served by one.
-use mathlib.Core.Path.{_≡_, refl, sym, ap, subst, _∙_}
+use mathlib.Core.Path.{_≡_, refl, sym, ap, _∙_}
 use mathlib.Core.Logic.{_⊎_, inl, inr}
 use mathlib.Core.Bool.{Bool, true, false, cond, not, _&&_, _||_}
 use mathlib.Core.List.{List, [], _∷_}
@@ -8,7 +8,7 @@ use native.Mathlib.Omega.{arith}
 use lib.Dec.{ltb, leb, eqb}
 use lib.ListN.{length, take, drop}
 use Rattle.std.proofs.shelf.Lists.{take-rest}
-use Rattle.std.proofs.shelf.Tests.{ltb-true, lt-ltb, le-ltb, leb-true, le-leb, lt-leb, eqb-true, eq-eqb, ne-eqb, cases-eq, cases-lt, and-parts, not-true, both-ways}
+use Rattle.std.proofs.shelf.Tests.{ltb-true, lt-ltb, le-ltb, leb-true, le-leb, lt-leb, eq-eqb, ne-eqb, cases-eq, cases-lt, and-parts, not-true, both-ways}
 use Rattle.model.specs.Image.{all}
 use Rattle.store.specs.declared.spares.Spare.{Spare}
 use Rattle.store.specs.Stores.{most-listed, member, distinct, sectors-of, spares-of, pairs-fit, served}

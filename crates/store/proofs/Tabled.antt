@@ -1,19 +1,18 @@
 -- Images that are a table of a function, from-to 0 n f: what stands at a sector, and what a write there leaves.
 use mathlib.Core.Path.{_≡_, refl, sym, ap, ap₂, _∙_}
-use mathlib.Core.Logic.{_⊎_, inl, inr}
-use mathlib.Core.Bool.{Bool, true, false, cond}
+use mathlib.Core.Bool.{Bool, true, cond}
 use mathlib.Core.List.{List, [], _∷_}
 use Prim.Native.Nat.{ℕ, zero, suc, _+_, _≤_, _<_}
 use native.Mathlib.Omega.{arith}
 use lib.Dec.{ltb, leb}
 use lib.ListN.{length, getD, set}
 use Rattle.std.proofs.shelf.Lists.{length-set}
-use Rattle.std.proofs.shelf.Tests.{lt-ltb, le-ltb, le-leb, leb-true, and-from, and-parts, cases-lt}
+use Rattle.std.proofs.shelf.Tests.{lt-ltb, le-ltb, le-leb, leb-true, and-from, and-parts}
 use Rattle.std.specs.declared.result.Result.{Result}
 use Rattle.std.specs.declared.result.Result.the-variants.{Ok, Err}
 use Rattle.model.specs.declared.types.Fault.{Fault}
 use Rattle.model.specs.Sizes.{most-sectors}
-use Rattle.model.specs.Image.{Image, Sector, bytes, dead, all, from-to, whole-sector, whole, past-end-at, dead-at, seen, look, done-or-fault, access, bytes-or, filled, stored, put}
+use Rattle.model.specs.Image.{Image, Sector, bytes, dead, all, from-to, whole-sector, whole, past-end-at, seen, look, done-or-fault, access, bytes-or, filled, stored, put}
 
 -- the list itself ---------------------------------------------------------------------------------------
 
@@ -76,6 +75,13 @@ filled-at i s buffer r e = ap (λ x. bytes-or x buffer) e
 
 pub put-at : (i : Image) (s : ℕ) (new : List ℕ) (r : Result (List ℕ) Fault) → look i s ≡ r → put i s new ≡ stored r i s new
 put-at i s new r e = ap (λ x. stored x i s new) e
+
+pub length-put : (i : Image) (s : ℕ) (new : List ℕ) → length (put i s new) ≡ length i
+length-put i s new = go (look i s)
+  where
+    go : (r : Result (List ℕ) Fault) → length (stored r i s new) ≡ length i
+    go (Ok old) = length-set i s (bytes new)
+    go (Err f) = refl
 
 -- a sector of a whole image is whole
 pub getD-whole : (i : Image) (s : ℕ) → whole i ≡ true → whole-sector (getD i s (dead 0 0)) ≡ true

@@ -12,7 +12,7 @@ use Rattle.model.specs.Sizes.{deepest}
 use Rattle.model.specs.Image.{Image, access, filled, put}
 use Rattle.model.specs.declared.types.Fault.{Fault}
 
--- an answer of the store below, one layer up
+-- an answer of the store below, one layer up: a dead sector keeps its place
 abbrev pub risen-answer : Result (Unit {0}) Fault → Result (Unit {0}) Fault
 risen-answer (Ok done) = Ok done
 risen-answer (Err f) = Err (record { cause = f .cause; place = f .place; depth = min (f .depth + 1) deepest })
@@ -35,7 +35,7 @@ abbrev pub Led : (Image → Image) → Image → ℕ → Result ℕ Fault → Ty
 Led layer below s (Ok p) = Leads layer below s p
 Led layer below s (Err f) = Ends (layer below) s f
 
--- n sectors below are enough for a need; where there is none, no number is
+-- n sectors below are as many as are needed; where the need is unknown, no number is
 abbrev pub enough : ℕ → Option ℕ → Bool
 enough n None = false
 enough n (Some least) = leb least n
