@@ -4,3 +4,7 @@ pub mod Laid
 pub mod Flats
 pub mod Pairs
 pub mod Shorts
+pub mod Layered
+pub mod Windows
+pub mod Sparing
+pub mod Stubs

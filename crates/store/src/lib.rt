@@ -7,11 +7,14 @@ use model::types::Fault;
 
 mod faults;
 pub mod flat;
+mod layer;
 pub mod pair;
 pub mod short;
+pub mod spares;
 mod stretch;
 #[cfg(test)]
 mod tests_bottoms;
+pub mod window;
 
 // The bytes of a sector.
 pub const SECTOR: usize = 512;
