@@ -1,6 +1,7 @@
-// What a crew sees of a refusal: its number and its word.
+// What a crew sees of a refusal: its number and its word. A store's fault becomes a refusal, whole.
 ghost use mathlib.Core.Path.{_≡_};
-ghost use Rattle.model.specs.Refusals.{number as number-of, word as word-of};
+ghost use Rattle.model.specs.Refusals.{number as number-of, word as word-of, dead};
+use crate::types::Fault;
 use crate::types::Refusal;
 
 impl Refusal {
@@ -44,5 +45,13 @@ impl Refusal {
             Refusal::Misfit => "misfit",
             Refusal::Unknown => "unknown",
         }
+    }
+}
+
+pub impl From<Fault> for Refusal as RefusalFromFault {
+    ghost converts = { λ fault refusal. refusal ≡ dead fault };
+
+    fn from(fault: Fault) -> Refusal {
+        Refusal::Dead(fault)
     }
 }

@@ -1,1 +1,4 @@
 pub mod Stores
+pub mod Bottoms
+pub mod Through
+pub mod Layers

@@ -11,6 +11,7 @@ use Rattle.model.specs.Sizes.{sector-size, most-sectors}
 use Rattle.model.specs.Image.{Image, Sector, bytes, dead, all, from-to, risen}
 use Rattle.model.specs.declared.types.Refusal.{Refusal}
 use Rattle.model.specs.declared.types.Refusal.the-variants.{Misfit as misfit}
+use Rattle.store.specs.declared.spares.Spare.{Spare}
 
 -- the answer to the question whether something fits
 abbrev pub fit-answer : Bool → Result (Unit {0}) Refusal
@@ -72,60 +73,65 @@ pair-image even odd = laid (pair-fits even odd) (from-to 0 (2 * (length even / s
 abbrev pub short-bytes : ℕ
 short-bytes = 34816
 
-abbrev pub short-size : ℕ
+-- shut, so that no proof writes the sectors out
+unfoldable pub short-size : ℕ
 short-size = 260
 
 abbrev pub short-fits : List ℕ → Bool
 short-fits buffer = eqb (length buffer) short-bytes
 
+abbrev pub short-lives : ℕ → Bool
+short-lives s = ltb s 0x40 || leb 0x100 s
+
+-- which stretch of the buffer a live sector lies in
+abbrev pub short-place : ℕ → ℕ
+short-place s = cond (ltb s 0x40) s (0x40 + (s - 0x100))
+
 abbrev pub short-sector : List ℕ → ℕ → Sector
-short-sector buffer s =
-    cond (ltb s 0x40) (bytes (stretch buffer s))
-    (cond (ltb s 0x100) (dead s 0)
-    (bytes (stretch buffer (0x40 + (s - 0x100)))))
+short-sector buffer s = cond (short-lives s) (bytes (stretch buffer (short-place s))) (dead s 0)
 
 abbrev pub short-image : List ℕ → Image
 short-image buffer = laid (short-fits buffer) (from-to 0 short-size (short-sector buffer))
+
+-- a layer over the store below -------------------------------------------------------------------------------------
+
+-- c sectors: sector s is sector `serve s` below, and dead one layer deeper if that is dead
+abbrev pub layered : Image → ℕ → (ℕ → ℕ) → Image
+layered below c serve = from-to 0 c (λ s. risen (getD below (serve s) (dead 0 0)))
 
 -- window: sector s is sector a + s below, and there are c of them -------------------------------------------------
 
 abbrev pub window-fits : Image → ℕ → ℕ → Bool
 window-fits below a c = leb (a + c) (length below)
 
-abbrev pub window-sector : Image → ℕ → ℕ → Sector
-window-sector below a s = risen (getD below (a + s) (dead 0 0))
-
 abbrev pub window-image : Image → ℕ → ℕ → Image
-window-image below a c = laid (window-fits below a c) (from-to 0 c (window-sector below a))
+window-image below a c = laid (window-fits below a c) (layered below c (λ s. a + s))
 
 -- spares: v sectors are visible, and a paired one is served by its spare ---------------------------------------------
 
-pub record Paired : Type 0 where
-  pub sector : ℕ
-  pub spare : ℕ
-
-abbrev pub sectors-of : List Paired → List ℕ
+abbrev pub sectors-of : List Spare → List ℕ
 sectors-of ps = map (λ p. p .sector) ps
 
-abbrev pub spares-of : List Paired → List ℕ
+abbrev pub spares-of : List Spare → List ℕ
 spares-of ps = map (λ p. p .spare) ps
 
-abbrev pub spares-fit : Image → ℕ → List Paired → Bool
-spares-fit below v ps =
-    leb v (length below)
-    && leb (length ps) most-listed
+-- what is asked of the pairs alone
+abbrev pub pairs-fit : ℕ → List Spare → Bool
+pairs-fit v ps =
+    leb (length ps) most-listed
     && distinct (sectors-of ps)
     && all (λ s. ltb s v) (sectors-of ps)
     && distinct (spares-of ps)
-    && all (λ s. leb v s && ltb s (length below)) (spares-of ps)
+    && all (λ s. leb v s) (spares-of ps)
+
+-- and of the store below: it has the visible sectors and the spares
+abbrev pub spares-fit : Image → ℕ → List Spare → Bool
+spares-fit below v ps = pairs-fit v ps && leb v (length below) && all (λ s. ltb s (length below)) (spares-of ps)
 
 -- the sector below that serves s
-abbrev pub served : List Paired → ℕ → ℕ
+abbrev pub served : List Spare → ℕ → ℕ
 served [] s = s
 served (p ∷ ps) s = cond (eqb s (p .sector)) (p .spare) (served ps s)
 
-abbrev pub spares-sector : Image → List Paired → ℕ → Sector
-spares-sector below ps s = risen (getD below (served ps s) (dead 0 0))
-
-abbrev pub spares-image : Image → ℕ → List Paired → Image
-spares-image below v ps = laid (spares-fit below v ps) (from-to 0 v (spares-sector below ps))
+abbrev pub spares-image : Image → ℕ → List Spare → Image
+spares-image below v ps = laid (spares-fit below v ps) (layered below v (served ps))

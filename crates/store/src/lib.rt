@@ -5,8 +5,24 @@ ghost use lib.ListN.{length};
 ghost use Rattle.model.specs.Image.{Image, whole, access, filled, put};
 use model::types::Fault;
 
+mod faults;
+pub mod flat;
+mod layer;
+pub mod pair;
+pub mod short;
+pub mod spares;
+mod stretch;
+#[cfg(test)]
+mod tests_bottoms;
+pub mod window;
+
 // The bytes of a sector.
 pub const SECTOR: usize = 512;
+
+// The most sectors that a store has, and the most dead numbers or pairs that one is told of.
+pub const MOST_SECTORS: usize = 65_535;
+
+pub const MOST_LISTED: usize = 8;
 
 // A store means an image: a list of sectors, each 512 bytes or dead with its place and depth. What a call answers, and
 // what it leaves in the store and in the buffer, is fixed by the image at every sector number.

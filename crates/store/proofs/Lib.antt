@@ -1,0 +1,10 @@
+pub mod Tabled
+pub mod Stretches
+pub mod Laid
+pub mod Flats
+pub mod Pairs
+pub mod Shorts
+pub mod Layered
+pub mod Windows
+pub mod Sparing
+pub mod Stubs
