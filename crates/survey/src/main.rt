@@ -11,9 +11,18 @@ fn main(rt: LibcRuntime) -> Result<(), AnyError> {
 }
 
 fn tour(rt: &LibcRuntime) -> Result<(), AnyError> {
-    println!(rt, "Cerealweekly: the file system of a cave surveying instrument.")?;
-    println!(rt, "A tree of files and directories on 512-byte sectors, proved in Rattle:")?;
-    println!(rt, "no sector is ever in two files, and every answer is fixed beforehand.")?;
+    println!(
+        rt,
+        "Cerealweekly: the file system of a cave surveying instrument."
+    )?;
+    println!(
+        rt,
+        "A tree of files and directories on 512-byte sectors, proved in Rattle:"
+    )?;
+    println!(
+        rt,
+        "no sector is ever in two files, and every answer is fixed beforehand."
+    )?;
     println!(rt, "Proved with {KIT}.")?;
     stores::tour(rt)
 }

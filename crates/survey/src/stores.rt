@@ -16,11 +16,15 @@ use store::window::WindowStore;
 
 // The sector of the table of files, which is dead on this chip, and the sector that is to serve it.
 const DEAD: u16 = 0x102;
+
 const SPARE: u16 = 260;
 
 pub fn tour(rt: &LibcRuntime) -> Result<(), AnyError> {
     println!(rt, "")?;
-    println!(rt, "1. A chip of 261 sectors comes from the bench with sector {DEAD} dead.")?;
+    println!(
+        rt,
+        "1. A chip of 261 sectors comes from the bench with sector {DEAD} dead."
+    )?;
     let mut chip = worn_chip(rt)?;
     look(rt, "The chip", &mut chip)?;
     let mut window = Window::lay(chip, 0, SPARE);
@@ -29,12 +33,18 @@ pub fn tour(rt: &LibcRuntime) -> Result<(), AnyError> {
     look(rt, "A window over that window", &mut window)?;
 
     println!(rt, "2. Sector {SPARE} is to serve it.")?;
-    let mended = Spare { sector: DEAD, spare: SPARE };
+    let mended = Spare {
+        sector: DEAD,
+        spare: SPARE,
+    };
     let mut spares = Spares::lay(worn_chip(rt)?, SPARE, vec![in rt.alloc(); mended]?);
     look(rt, "Spares over the chip", &mut spares)?;
     copy_and_compare(rt, &mut spares)?;
 
-    println!(rt, "3. The same on a pair of buffers, 130 sectors each, with nothing dead.")?;
+    println!(
+        rt,
+        "3. The same on a pair of buffers, 130 sectors each, with nothing dead."
+    )?;
     let even = vec![in rt.alloc(); 0; 130 * SECTOR]?;
     let odd = vec![in rt.alloc(); 0; 130 * SECTOR]?;
     let mut pair = Pair::lay(even, odd);
@@ -59,7 +69,10 @@ fn look<S: Store>(rt: &LibcRuntime, name: &str, store: &mut S) -> Result<(), Any
             let cause = word(&fault);
             let place = fault.place;
             let depth = fault.depth;
-            println!(rt, "   {name}: {size} sectors; sector {DEAD} is {cause}, place {place}, depth {depth}.")?;
+            println!(
+                rt,
+                "   {name}: {size} sectors; sector {DEAD} is {cause}, place {place}, depth {depth}."
+            )?;
         }
     }
     Ok(())
@@ -79,7 +92,10 @@ fn copy_and_compare<S: Store>(rt: &LibcRuntime, store: &mut S) -> Result<(), Any
     if store.write(DEAD, &bytes).is_err() || store.read(DEAD, &mut back).is_err() {
         println!(rt, "   Sector {DEAD} cannot be used.")?;
     } else if back == bytes {
-        println!(rt, "   Sector {DEAD} was written and read back: the same 512 bytes.")?;
+        println!(
+            rt,
+            "   Sector {DEAD} was written and read back: the same 512 bytes."
+        )?;
     } else {
         println!(rt, "   Sector {DEAD} came back changed.")?;
     }

@@ -7,5 +7,4 @@ pub mod paths;
 pub mod rows;
 pub mod sizes;
 pub mod slots;
-pub mod soundness;
 pub mod types;

@@ -54,7 +54,7 @@ put-other i s r b ne = go (look i s)
     go (Ok old) = ap₂ (λ (m : ℕ) (x : Sector). cond (ltb r m) (seen x) (Err (past-end-at r))) (length-set i s (bytes b)) (getD-set-other i s r (bytes b) (dead 0 0) ne)
     go (Err f) = refl
 
-put-alive : (i : Image) (s s′ : ℕ) (b : List ℕ) → is-ok (look i s) ≡ true → is-ok (look (put i s b) s′) ≡ is-ok (look i s′)
+pub put-alive : (i : Image) (s s′ : ℕ) (b : List ℕ) → is-ok (look i s) ≡ true → is-ok (look (put i s b) s′) ≡ is-ok (look i s′)
 put-alive i s s′ b h = go (cases-eq s′ s)
   where
     go : (s′ ≡ s) ⊎ (s′ ≡ s → ⊥) → is-ok (look (put i s b) s′) ≡ is-ok (look i s′)

@@ -1,0 +1,3 @@
+// A volume: a tree of files and directories on a store.
+pub mod format;
+pub mod sectors;
