@@ -1,0 +1,5 @@
+mod Apart
+mod Claiming
+mod Climbing
+mod Due
+mod Scans
