@@ -1,5 +1,10 @@
-mod Apart
-mod Claiming
-mod Climbing
-mod Due
-mod Scans
+pub mod Apart
+pub mod Blanks
+pub mod Claiming
+pub mod Climbing
+pub mod Cuts
+pub mod Due
+pub mod Pieces
+pub mod Scans
+pub mod Spellings
+pub mod Steps

@@ -4,13 +4,17 @@ ghost use mathlib.Core.Path.{_≡_};
 ghost use lib.ListN.{length};
 ghost use Rattle.model.specs.Tables.{entry, entries, entries-bytes, live};
 ghost use Rattle.tables.specs.Views.{entry-view, entries-view};
+use crate::sizes::ENTRIES;
+use crate::sizes::ENTRY;
+use crate::sizes::NAME;
+use crate::sizes::SECTOR;
 use crate::slots::Slot;
 use crate::types::Entry;
 
 impl Entry {
     pub const FREE: Entry = Entry {
         parent: 0,
-        name: [0; 15],
+        name: [0; NAME],
     };
 
     // The entry that sixteen bytes hold.
@@ -21,7 +25,7 @@ impl Entry {
         let [parent, rest @ ..] = bytes else {
             return Entry::FREE;
         };
-        let mut name = [0; 15];
+        let mut name = [0; NAME];
         name.copy_from_slice(rest);
         Entry {
             parent: *parent,
@@ -45,24 +49,26 @@ pub impl Slot for Entry as EntrySlot {
 }
 
 // The entries that a sector holds.
-pub fn decode(sector: &[u8; 512]) -> [Entry; 32]
+pub fn decode(sector: &[u8; SECTOR]) -> [Entry; ENTRIES]
     ensures { λ es. ⌜ entries-view es ≡ entries (now (sector .entry)) ⌝ }
 {
-    let mut all = [Entry::FREE; 32];
+    let mut all = [Entry::FREE; ENTRIES];
     for (i, entry) in all.iter_mut().enumerate() {
-        *entry = Entry::decode(&sector[16 * i..16 * i + 16]);
+        let at = ENTRY * i;
+        *entry = Entry::decode(&sector[at..at + ENTRY]);
     }
     all
 }
 
 // The sector that holds the entries.
-pub fn encode(all: &[Entry; 32]) -> [u8; 512]
+pub fn encode(all: &[Entry; ENTRIES]) -> [u8; SECTOR]
     ensures { λ r. ⌜ r ≡ entries-bytes (entries-view (now (all .entry))) ⌝ }
 {
-    let mut sector = [0; 512];
+    let mut sector = [0; SECTOR];
     for (i, entry) in all.iter().enumerate() {
-        sector[16 * i] = entry.parent;
-        sector[16 * i + 1..16 * i + 16].copy_from_slice(&entry.name);
+        let at = ENTRY * i;
+        sector[at] = entry.parent;
+        sector[at + 1..at + ENTRY].copy_from_slice(&entry.name);
     }
     sector
 }

@@ -3,23 +3,22 @@ ghost use mathlib.Core.Path.{_≡_};
 ghost use Rattle.model.specs.Names.{proper-byte, proper-name, before};
 ghost use Rattle.model.specs.Tables.{trimmed, well-named};
 ghost use Rattle.tables.specs.Views.{entry-view};
+use crate::sizes::NAME;
+use crate::sizes::SLASH;
 use crate::types::Entry;
-
-// The most bytes of a name.
-pub const LONGEST: usize = 15;
 
 // 0x21 to 0x7E, without the slash.
 pub fn is_proper_byte(b: u8) -> bool
     ensures { λ r. ⌜ r ≡ proper-byte b ⌝ }
 {
-    b >= 0x21 && b <= 0x7e && b != b'/'
+    b >= 0x21 && b <= 0x7e && b != SLASH
 }
 
 // 1 to 15 proper bytes.
 pub fn is_proper(name: &[u8]) -> bool
     ensures { λ r. ⌜ r ≡ proper-name (now (name .entry)) ⌝ }
 {
-    if name.is_empty() || name.len() > LONGEST {
+    if name.is_empty() || name.len() > NAME {
         return false;
     }
     for b in name {
@@ -47,12 +46,12 @@ impl Entry {
     pub fn name(&self) -> &[u8]
         ensures { λ r. ⌜ now r ≡ trimmed (now (self .entry) .name) ⌝ }
     {
-        for i in 0..LONGEST {
+        for i in 0..NAME {
             if self.name[i] == 0 {
                 return &self.name[0..i];
             }
         }
-        &self.name[0..LONGEST]
+        &self.name[0..NAME]
     }
 
     // A proper name, filled up with 0x00.
@@ -63,7 +62,7 @@ impl Entry {
         if !is_proper(name) {
             return false;
         }
-        for i in name.len()..LONGEST {
+        for i in name.len()..NAME {
             if self.name[i] != 0 {
                 return false;
             }
