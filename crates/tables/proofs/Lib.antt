@@ -8,3 +8,4 @@ pub mod Pieces
 pub mod Scans
 pub mod Spellings
 pub mod Steps
+pub mod Verdict

@@ -8,24 +8,20 @@ ghost use Rattle.std.specs.Options.{Cases};
 ghost use Rattle.model.specs.Sizes.{first-data, last-data, mark-free, mark-used, mark-dead, blank};
 ghost use Rattle.model.specs.Tables.{all, data-sector, used, member, distinct, live-places, proper-row, proper-rows, marks-right};
 ghost use Rattle.tables.specs.Views.{view};
+use crate::sizes::ENTRIES;
+use crate::sizes::FIRST_DATA;
+use crate::sizes::LAST_DATA;
+use crate::sizes::PLACES;
 use crate::types::Mark;
 use crate::types::MarkPartialEq;
 use crate::types::Row;
 use crate::types::Tables;
 
-// The data sectors are these and all between.
-const FIRST_DATA: usize = 0x0b;
-
-const LAST_DATA: usize = 0xff;
-
-const PLACES: usize = 16;
-
 // A data sector that is alive and that no row has claimed yet.
 fn is_claimable(sector: u8, dead: &[bool; 256], claimed: &[bool; 256]) -> bool
     ensures { λ r. ⌜ r ≡ (data-sector sector && not (getD (now (dead .entry)) sector true) && not (getD (now (claimed .entry)) sector true)) ⌝ }
 {
-    let sector = sector as usize;
-    sector >= FIRST_DATA && !dead[sector] && !claimed[sector]
+    sector >= FIRST_DATA && !dead[sector as usize] && !claimed[sector as usize]
 }
 
 impl Row {
@@ -65,9 +61,9 @@ impl Row {
 fn due_mark(sector: usize, dead: &[bool; 256], claimed: &[bool; 256]) -> Mark
     ensures { λ r. ⌜ r .0 ≡ cond (ltb sector first-data) mark-used (cond (ltb last-data sector) mark-free (cond (getD (now (dead .entry)) sector true) mark-dead (cond (getD (now (claimed .entry)) sector true) mark-used mark-free))) ⌝ }
 {
-    if sector < FIRST_DATA {
+    if sector < FIRST_DATA as usize {
         Mark::USED
-    } else if sector > LAST_DATA {
+    } else if sector > LAST_DATA as usize {
         Mark::FREE
     } else if dead[sector] {
         Mark::DEAD
@@ -84,7 +80,7 @@ impl Tables {
         ensures { λ r. ⌜ Cases r ((proper-rows (λ s. not (getD (now (dead .entry)) s true)) (view (now (self .entry)) .files) (view (now (self .entry)) .rows) && distinct (live-places (view (now (self .entry)) .files) (view (now (self .entry)) .rows))) ≡ false) (λ c. ((proper-rows (λ s. not (getD (now (dead .entry)) s true)) (view (now (self .entry)) .files) (view (now (self .entry)) .rows) && distinct (live-places (view (now (self .entry)) .files) (view (now (self .entry)) .rows))) ≡ true) × ((s : ℕ) → s < 256 → getD c s true ≡ member s (live-places (view (now (self .entry)) .files) (view (now (self .entry)) .rows)))) ⌝ }
     {
         let mut claimed = [false; 256];
-        for i in 0..32 {
+        for i in 0..ENTRIES {
             if self.files[i].is_live() && !self.rows[i].claim(dead, &mut claimed) {
                 return None;
             }

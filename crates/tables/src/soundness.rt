@@ -1,18 +1,15 @@
 // Whether tables are sound, decided in one pass over each table; only the 64 entries are compared each with each.
-ghost use mathlib.Core.Bool.{not, true, _||_};
+ghost use mathlib.Core.Bool.{not, true, _&&_, _||_};
 ghost use mathlib.Core.List.{_++_};
 ghost use mathlib.Core.Path.{_≡_};
 ghost use lib.ListN.{getD};
 ghost use Rattle.model.specs.Sizes.{entry-count};
 ghost use Rattle.model.specs.Tables.{all, each, live-dir, proper-entry, climbs, same-place, unshared, sound-by};
 ghost use Rattle.tables.specs.Views.{view, entry-view, entries-view};
+use crate::sizes::ENTRIES;
+use crate::sizes::ROOT;
 use crate::types::Entry;
 use crate::types::Tables;
-
-// The parent of what stands in no directory.
-const ROOT: u8 = 0xff;
-
-const ENTRIES: u8 = 32;
 
 impl Entry {
     // Both are live, in one directory, and have one name.
@@ -55,17 +52,23 @@ impl Tables {
         let Some(claimed) = self.claimed(dead) else {
             return false;
         };
-        self.marks_are_right(dead, &claimed)
-            && self.entries_are_proper(&self.dirs)
-            && self.entries_are_proper(&self.files)
-            && self.dirs_climb()
-            && self.items_are_apart()
+        self.marks_are_right(dead, &claimed) && self.entries_are_sound()
+    }
+
+    // Names and parents, apart from the files' sectors.
+    fn entries_are_sound(&self) -> bool
+        ensures { λ r. ⌜ r ≡ ((all (proper-entry (view (now (self .entry)) .dirs)) (view (now (self .entry)) .dirs) && all (proper-entry (view (now (self .entry)) .dirs)) (view (now (self .entry)) .files)) && each 0 entry-count (λ d. not (live-dir (view (now (self .entry)) .dirs) d) || climbs (view (now (self .entry)) .dirs) entry-count d) && unshared (view (now (self .entry)) .dirs ++ view (now (self .entry)) .files)) ⌝ }
+    {
+        if !self.entries_are_proper(&self.dirs) || !self.entries_are_proper(&self.files) {
+            return false;
+        }
+        self.dirs_climb() && self.items_are_apart()
     }
 
     fn is_live_dir(&self, dir: u8) -> bool
         ensures { λ r. ⌜ r ≡ live-dir (view (now (self .entry)) .dirs) dir ⌝ }
     {
-        dir < ENTRIES && self.dirs[dir as usize].is_live()
+        (dir as usize) < ENTRIES && self.dirs[dir as usize].is_live()
     }
 
     // Free, or with a proper name and a parent that is the root or a live directory.
@@ -107,7 +110,7 @@ impl Tables {
     fn dirs_climb(&self) -> bool
         ensures { λ r. ⌜ r ≡ each 0 entry-count (λ d. not (live-dir (view (now (self .entry)) .dirs) d) || climbs (view (now (self .entry)) .dirs) entry-count d) ⌝ }
     {
-        for dir in 0..ENTRIES {
+        for dir in 0..ENTRIES as u8 {
             if self.is_live_dir(dir) && !self.climbs(dir) {
                 return false;
             }
