@@ -3,3 +3,5 @@ pub mod Blanks
 pub mod Pieces
 pub mod Cuts
 pub mod Spellings
+pub mod Seeks
+pub mod Descents
