@@ -3,9 +3,11 @@ pub mod Blanks
 pub mod Claiming
 pub mod Climbing
 pub mod Cuts
+pub mod Descents
 pub mod Due
 pub mod Pieces
 pub mod Scans
+pub mod Seeks
 pub mod Spellings
 pub mod Steps
 pub mod Verdict

@@ -2,6 +2,7 @@
 pub mod claims;
 pub mod entries;
 pub mod layout;
+pub mod lookup;
 pub mod marks;
 pub mod names;
 pub mod paths;

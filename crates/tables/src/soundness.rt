@@ -65,18 +65,11 @@ impl Tables {
         self.dirs_climb() && self.items_are_apart()
     }
 
-    fn is_live_dir(&self, dir: u8) -> bool
-        ensures { λ r. ⌜ r ≡ live-dir (view (now (self .entry)) .dirs) dir ⌝ }
-    {
-        (dir as usize) < ENTRIES && self.dirs[dir as usize].is_live()
-    }
-
     // Free, or with a proper name and a parent that is the root or a live directory.
     fn is_proper_entry(&self, entry: &Entry) -> bool
         ensures { λ r. ⌜ r ≡ proper-entry (view (now (self .entry)) .dirs) (entry-view (now (entry .entry))) ⌝ }
     {
-        !entry.is_live()
-            || entry.is_well_named() && (entry.parent == ROOT || self.is_live_dir(entry.parent))
+        !entry.is_live() || entry.is_well_named() && self.is_start(entry.parent)
     }
 
     fn entries_are_proper(&self, entries: &[Entry]) -> bool
