@@ -1,3 +1,4 @@
+pub mod Admission
 pub mod Apart
 pub mod Blanks
 pub mod Claiming
@@ -8,6 +9,7 @@ pub mod Due
 pub mod Pieces
 pub mod Scans
 pub mod Seeks
+pub mod Shapes
 pub mod Spellings
 pub mod Steps
 pub mod Verdict
