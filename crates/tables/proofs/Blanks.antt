@@ -1,13 +1,14 @@
 -- What stands before the first 0x00, and a name that is filled up with it.
-use mathlib.Core.Path.{_≡_, refl, sym, ap, _∙_}
+use mathlib.Core.Path.{_≡_, refl, sym, ap, ap₂, _∙_}
+use mathlib.Core.Logic.{_⊎_, inl, inr}
 use mathlib.Core.Bool.{Bool, true, false, cond, _&&_}
 use mathlib.Core.List.{List, [], _∷_, _++_}
-use Prim.Native.Nat.{ℕ, zero, suc, _+_, _-_, _≤_, _<_}
+use Prim.Native.Nat.{ℕ, zero, suc, _+_, _-_, _≤_, _<_, min}
 use native.Mathlib.Omega.{arith}
 use lib.Dec.{eqb}
 use lib.ListN.{length, getD, take, drop, replicate}
-use Rattle.std.proofs.shelf.Lists.{append-assoc, append-nil, at-drop-more, at-drop-all, take-all, take-more}
-use Rattle.std.proofs.shelf.Tests.{cond-true, cond-false, eq-eqb, ne-eqb}
+use Rattle.std.proofs.shelf.Lists.{append-assoc, append-nil, at-drop-more, at-drop-all, drop-replicate, length-append, length-replicate, take-all, take-append-le, take-more}
+use Rattle.std.proofs.shelf.Tests.{and-right, cases-lt, eq-eqb, ne-eqb}
 use Rattle.model.specs.Image.{all}
 use Rattle.model.specs.Names.{same-name, padded}
 use Rattle.model.specs.Tables.{up-to-blank}
@@ -68,3 +69,36 @@ pub same-padded : (xs : List ℕ) → length xs ≡ 15 → same-name xs (padded 
 same-padded xs l =
     ap (λ ys. same-name xs (ys ++ replicate (15 - length (up-to-blank xs)) 0)) (front-blank xs)
     ∙ same-front (length (up-to-blank xs)) (15 - length (up-to-blank xs)) xs (let s = short-blank xs in omega arith)
+
+-- filling up -------------------------------------------------------------------------------------------
+
+-- n, then as many of w zeros as are left
+pub fill-up : (w k : ℕ) (n : List ℕ) → k ≡ min (length n) w → take k n ++ drop k (replicate w 0) ≡ take w (n ++ replicate (w - length n) 0)
+fill-up w k n e = go (cases-lt w (length n))
+  where
+    go : (w < length n) ⊎ (length n ≤ w) → take k n ++ drop k (replicate w 0) ≡ take w (n ++ replicate (w - length n) 0)
+    go (inl l) =
+        let q : k ≡ w = omega arith in
+        let z : w - w ≡ 0 = omega arith in
+        ap (λ i. take i n ++ drop i (replicate w 0)) q
+        ∙ ap (λ xs. take w n ++ xs) (drop-replicate w w 0 ∙ ap (λ i. replicate i 0) z)
+        ∙ append-nil (take w n)
+        ∙ sym (take-append-le w n (replicate (w - length n) 0) (omega arith))
+    go (inr l) =
+        let q : k ≡ length n = omega arith in
+        ap (λ i. take i n ++ drop i (replicate w 0)) q
+        ∙ ap₂ _++_ (take-all (length n) n (omega arith)) (drop-replicate (length n) w 0)
+        ∙ sym (take-all w (n ++ replicate (w - length n) 0) (omega (arith, length-append n (replicate (w - length n) 0), length-replicate {A = ℕ} (w - length n) 0)))
+
+pub fits-padded : (n : List ℕ) → length n ≤ 15 → take 15 (padded n) ≡ padded n
+fits-padded n l = take-all 15 (padded n) (omega (arith, length-append n (replicate (15 - length n) 0), length-replicate {A = ℕ} (15 - length n) 0))
+
+-- a name of more than fifteen bytes is that of no fifteen
+pub long-name : (xs n : List ℕ) → length xs ≡ 15 → 15 < length n → same-name xs (padded n) ≡ false
+long-name xs n e l = apart xs (padded n) (λ d. omega (arith, length-append n (replicate (15 - length n) 0), d))
+  where
+    apart : (ys zs : List ℕ) → (length ys ≡ length zs → ⊥) → same-name ys zs ≡ false
+    apart [] [] h = absurd (h refl)
+    apart [] (z ∷ zs) h = refl
+    apart (y ∷ ys) [] h = refl
+    apart (y ∷ ys) (z ∷ zs) h = and-right (eqb y z) (same-name ys zs) (apart ys zs (λ d. h (ap suc d)))

@@ -1,5 +1,15 @@
-pub mod Steps
+pub mod Admission
+pub mod Apart
 pub mod Blanks
-pub mod Pieces
+pub mod Claiming
+pub mod Climbing
 pub mod Cuts
+pub mod Descents
+pub mod Due
+pub mod Pieces
+pub mod Scans
+pub mod Seeks
+pub mod Shapes
 pub mod Spellings
+pub mod Steps
+pub mod Verdict

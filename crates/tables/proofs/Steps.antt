@@ -1,7 +1,7 @@
 -- One turn of a loop over a list: what is left of the list gives the answer.
-use mathlib.Core.Path.{_≡_, refl, sym, ap, _∙_}
+use mathlib.Core.Path.{_≡_, refl, sym, ap, ap₂, _∙_}
 use mathlib.Core.Bool.{Bool, true, false, cond, _&&_}
-use mathlib.Core.List.{List, [], _∷_}
+use mathlib.Core.List.{List, [], _∷_, map}
 use Prim.Native.Nat.{ℕ, zero, suc, _+_, _≤_, _<_}
 use native.Mathlib.Omega.{arith}
 use lib.ListN.{length, getD, drop}
@@ -55,3 +55,11 @@ module _ {A : Type 0} (f : A → Bool) (xs : List A) where
 
   pub first-over : (i : ℕ) → length xs ≤ i → first f xs ≡ later i (first f (drop i xs)) → None ≡ first f xs
   first-over i l s = sym (s ∙ ap (later i) (at-drop-all (first f) xs i l))
+
+pub first-map : {A B : Type 0} (f : B → Bool) (g : A → B) (xs : List A) → first f (map g xs) ≡ first (λ x. f (g x)) xs
+first-map f g [] = refl
+first-map f g (x ∷ xs) = ap (λ o. cond (f (g x)) (Some 0) (raised o)) (first-map f g xs)
+
+pub first-never : {A : Type 0} (f : A → Bool) (xs : List A) → ((x : A) → f x ≡ false) → first f xs ≡ None
+first-never f [] h = refl
+first-never f (x ∷ xs) h = ap₂ (λ b o. cond b (Some 0) (raised o)) (h x) (first-never f xs h)

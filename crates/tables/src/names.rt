@@ -1,6 +1,8 @@
 // Names: which bytes are one, and which of two comes first.
 ghost use mathlib.Core.Path.{_≡_};
-ghost use Rattle.model.specs.Names.{proper-byte, proper-name, before};
+ghost use Prim.Native.Nat.{_≤_};
+ghost use lib.ListN.{length, take};
+ghost use Rattle.model.specs.Names.{proper-byte, proper-name, before, padded as padded-name};
 ghost use Rattle.model.specs.Tables.{trimmed, well-named};
 ghost use Rattle.tables.specs.Views.{entry-view};
 use crate::sizes::NAME;
@@ -39,6 +41,17 @@ pub fn precedes(a: &[u8], b: &[u8]) -> bool
         }
     }
     a.len() < b.len()
+}
+
+// A name as an entry holds it: filled up with 0x00. Past fifteen bytes a name is cut off.
+pub fn padded(name: &[u8]) -> [u8; NAME]
+    ensures value { λ r. ⌜ r ≡ take 15 (padded-name (now (name .entry))) ⌝ }
+    ensures fits { λ r. ⌜ (length (now (name .entry)) ≤ 15 → r ≡ padded-name (now (name .entry))) ⌝ }
+{
+    let mut bytes = [0; NAME];
+    let long = name.len().min(NAME);
+    bytes[0..long].copy_from_slice(&name[0..long]);
+    bytes
 }
 
 impl Entry {

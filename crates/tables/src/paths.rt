@@ -1,6 +1,9 @@
 // Paths: names joined by slashes.
 ghost use mathlib.Core.Path.{_≡_};
+ghost use Prim.Native.Nat.{_<_};
 ghost use lib.Dec.{eqb};
+ghost use lib.ListN.{length};
+ghost use Rattle.std.specs.Slices.{found};
 ghost use Rattle.model.specs.Book.{last};
 ghost use Rattle.model.specs.Names.{names, spelt, spelt-or-empty, within};
 ghost use Rattle.model.specs.Sizes.{slash as slash-byte};
@@ -11,7 +14,8 @@ use crate::sizes::SLASH;
 
 // Where the first slash stands.
 pub fn slash(path: &[u8]) -> Option<usize>
-    ensures { λ r. ⌜ r ≡ first (λ b. eqb b slash-byte) (now (path .entry)) ⌝ }
+    ensures value { λ r. ⌜ r ≡ first (λ b. eqb b slash-byte) (now (path .entry)) ⌝ }
+    ensures bound { λ r. ⌜ found r (λ i. i < length (now (path .entry))) ⌝ }
 {
     for (i, b) in path.iter().enumerate() {
         if *b == SLASH {

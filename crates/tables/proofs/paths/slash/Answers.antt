@@ -13,7 +13,10 @@ pub returns-then-b-eq-SLASH : need.returns-then-b-eq-SLASH
 returns-then-b-eq-SLASH c =
     let path = c .args .path .now in
     let i = c .loop-i .i in
-    first-here is-slash path i (getD path i 0) (c .loop-i-test .taken) (getD-default path i 0 (getD path i 0) (c .loop-i-test .taken)) (c .loop-i .inv) (sym (eq-eqb (getD path i 0) 0x2f (c .if-b-eq-SLASH .taken)))
+    record {
+      value = first-here is-slash path i (getD path i 0) (c .loop-i-test .taken) (getD-default path i 0 (getD path i 0) (c .loop-i-test .taken)) (c .loop-i .inv) (sym (eq-eqb (getD path i 0) 0x2f (c .if-b-eq-SLASH .taken)));
+      bound = c .loop-i-test .taken;
+    }
 
 pub loop-i-again : need.loop-i-again
 loop-i-again c =
@@ -22,4 +25,4 @@ loop-i-again c =
     first-more is-slash path i (getD path i 0) (c .loop-i-test .taken) (getD-default path i 0 (getD path i 0) (c .loop-i-test .taken)) (c .loop-i .inv) (sym (ne-eqb (getD path i 0) 0x2f (c .if-b-eq-SLASH .left)))
 
 pub returns : need.returns
-returns c = first-over is-slash (c .args .path .now) (c .loop-i .i) (c .loop-i-test .left) (c .loop-i .inv)
+returns c = record { value = first-over is-slash (c .args .path .now) (c .loop-i .i) (c .loop-i-test .left) (c .loop-i .inv); bound = tt }
