@@ -1,6 +1,7 @@
 // The four tables as they lie in their four sectors.
 ghost use mathlib.Core.Path.{_≡_};
 ghost use Rattle.model.specs.Tables.{tables, entries-bytes, rows-bytes};
+ghost use Rattle.model.specs.Volume.{blank-sector};
 ghost use Rattle.tables.specs.Views.{view};
 use crate::entries;
 use crate::marks;
@@ -9,6 +10,14 @@ use crate::sizes::SECTOR;
 use crate::types::Tables;
 
 impl Tables {
+    // Tables of 0x00 alone: no sector is used, no entry is live.
+    pub fn blank() -> Tables
+        ensures { λ t. ⌜ view t ≡ tables blank-sector blank-sector blank-sector blank-sector ⌝ }
+    {
+        let blank = [0; SECTOR];
+        Tables::decode(&blank, &blank, &blank, &blank)
+    }
+
     // The tables that four sectors hold: the map, the directories, the files, the files' sectors.
     pub fn decode(
         map: &[u8; SECTOR],

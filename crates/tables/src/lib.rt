@@ -11,4 +11,6 @@ pub mod rows;
 pub mod sizes;
 pub mod slots;
 pub mod soundness;
+#[cfg(test)]
+mod tests;
 pub mod types;

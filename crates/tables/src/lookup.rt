@@ -40,8 +40,7 @@ impl Tables {
     pub fn is_live_dir(&self, dir: u8) -> bool
         ensures { λ r. ⌜ r ≡ live-dir (view (now (self .entry)) .dirs) dir ⌝ }
     {
-        let i = usize::from(dir);
-        i < ENTRIES && self.dirs[i].is_live()
+        (dir as usize) < ENTRIES && self.dirs[dir as usize].is_live()
     }
 
     // The root, or a live directory.
