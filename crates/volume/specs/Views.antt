@@ -1,0 +1,16 @@
+-- An open volume, viewed as the model's, by what its store means.
+use Rattle.std.specs.declared.option.Option.{Option}
+use Rattle.std.specs.declared.option.Option.the-variants.{Some, None}
+use Rattle.model.specs.Image.{Image}
+use Rattle.model.specs.Tables.{Tables as Model}
+use Rattle.model.specs.Volume.{Volume as ModelVolume}
+use Rattle.tables.specs.Views.{view}
+use Rattle.tables.specs.declared.consistent.Consistent.{Consistent}
+use Rattle.volume.specs.declared.types.Volume.{Volume}
+
+abbrev pub kept-view : Option Consistent → Option Model
+kept-view None = None
+kept-view (Some c) = Some (view (c .tables))
+
+abbrev pub volume-view : {S : Type 0} → (S → Image) → Volume S → ModelVolume
+volume-view image v = record { tables = kept-view (v .tables); image = image (v .store) }
