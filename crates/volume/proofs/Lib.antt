@@ -1,3 +1,4 @@
+pub mod Admitting
 pub mod Blanks
 pub mod Formatting
 pub mod Probes
