@@ -15,7 +15,11 @@ use Rattle.std.specs.declared.result.Result.the-variants.{Ok, Err}
 use Rattle.model.specs.declared.types.Fault.{Fault}
 use Rattle.model.specs.declared.types.Refusal.{Refusal}
 use Rattle.model.specs.declared.types.Refusal.the-variants.{Small as small, Unsound as unsound, Dead as dead}
-use Rattle.model.specs.Image.{Image}
+use mathlib.Core.Logic.{_↔_}
+use Rattle.model.specs.Image.{Image, whole}
+use Rattle.model.specs.Meaning.{Carries}
+use Rattle.model.specs.Tree.{is-some}
+use Rattle.model.proofs.Meaning.{let-in}
 use Rattle.model.specs.Answers.{answer, inspect-answer}
 use Rattle.model.specs.Tables.{Tables, load, alive, data-sector, sound-by, sound}
 use Rattle.model.specs.Volume.{Volume, format-refusal, inspection, loaded-refusal, kept, opened, Kept, in-step}
@@ -77,3 +81,22 @@ accepted i h = sym (ap (λ (o : Option Refusal). answer o tt) h)
 
 pub turned : (i : Image) (e : Refusal) (r : Result (Unit {0}) Refusal) → r ≡ Err e → inspection i ≡ Some e → r ≡ inspect-answer i
 turned i e r q h = q ∙ sym (ap (λ (o : Option Refusal). answer o tt) h)
+
+-- exactly the stores that carry sound tables -----------------------------------------------------------------
+
+none-or : (o : Option Refusal) → _≡_ {A = Result (Unit {0}) Refusal} (answer o tt) (Ok tt) → o ≡ None
+none-or None h = refl
+none-or (Some r) h = absurd (let z : _≡_ {A = ℕ} 0 1 = cc in let w : ⊥ = omega arith in w)
+
+pub exactly-inspected : (i : Image) → whole i ≡ true → (r : Result (Unit {0}) Refusal) → r ≡ inspect-answer i → (r ≡ Ok tt) ↔ Carries i
+exactly-inspected i w r e = (λ h. let-in i w .0 (none-or (inspection i) (sym e ∙ h)), λ c. e ∙ ap (λ (o : Option Refusal). answer o tt) (let-in i w .1 c))
+
+some-kept : (o : Option Refusal) (l : Result Tables Fault) → is-some (kept o l) ≡ true → o ≡ None
+some-kept None l h = refl
+some-kept (Some r) l h = absurd (let z : _≡_ {A = ℕ} 0 1 = cc in let w : ⊥ = omega arith in w)
+
+pub exactly-opened : (i : Image) → whole i ≡ true → (v : Volume) → v ≡ opened i → (is-some (v .tables) ≡ true) ↔ Carries i
+exactly-opened i w v e = (
+  λ h. let-in i w .0 (some-kept (inspection i) (load i) (sym (ap (λ (x : Volume). is-some (x .tables)) e) ∙ h)),
+  λ c. ap (λ (x : Volume). is-some (x .tables)) e ∙ ap₂ (λ (o : Option Refusal) (l : Result Tables Fault). is-some (kept o l)) (let-in i w .1 c) (c .held),
+)

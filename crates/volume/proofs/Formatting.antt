@@ -9,14 +9,17 @@ use Rattle.std.specs.declared.option.Option.{Option}
 use Rattle.std.specs.declared.option.Option.the-variants.{Some, None}
 use Rattle.std.specs.declared.result.Result.{Result}
 use Rattle.std.specs.declared.result.Result.the-variants.{Ok, Err}
-use Rattle.model.specs.Image.{Image, look, is-ok, access, done-or-fault, put, Write, writes, from-to}
+use Rattle.model.specs.Image.{Image, whole, look, is-ok, access, done-or-fault, put, Write, writes, from-to}
 use Rattle.model.specs.declared.types.Fault.{Fault}
 use Rattle.model.specs.declared.types.Refusal.{Refusal}
 use Rattle.model.specs.Tables.{Tables, load}
 use Rattle.model.specs.Volume.{blank-mark, blank-sector, format-writes, format-refusal, formatted, after-format}
 use Rattle.model.specs.Answers.{answer, format-answer}
+use Rattle.model.proofs.Calls.{format-ready}
+use Rattle.model.proofs.Trees.{format-bare}
 use Rattle.model.proofs.Store.Writes.{put-alive, writes-step}
 use Rattle.model.proofs.Tables.Loads.{load-holds}
+use Rattle.volume.specs.Blank.{Bare}
 
 -- an access that is refused is of a sector that is not alive
 refuted : (l : Result (List ℕ) Fault) (r : Result (Unit {0}) Fault) (f : Fault) → is-ok l ≡ true → r ≡ done-or-fault l → r ≡ Err f → ⊥
@@ -64,3 +67,18 @@ after-is i j h e = e ∙ sym (ap (λ (o : Option Refusal). elim o as (λ _. Imag
 
 pub answer-is : (i : Image) → format-refusal i ≡ None → Ok tt ≡ format-answer i
 answer-is i h = sym (ap (λ (o : Option Refusal). answer o tt) h)
+
+-- what an accepted format leaves
+pub bare-is : (i j : Image) → whole i ≡ true → format-refusal i ≡ None → j ≡ formatted i → Bare j
+bare-is i j w f e =
+    let r = format-ready i w f in
+    subst Bare (sym e) (record { tables = r .0; held = r .1 .loaded; sound = r .1 .facts; empty = format-bare i w f (r .0) (r .1 .loaded) })
+
+pub refused-leaves : (j : Image) (e : Refusal) (r : Result (Unit {0}) Refusal) → r ≡ Err e → r ≡ Ok tt → Bare j
+refused-leaves j e r q h = absurd (let z : _≡_ {A = ℕ} 0 1 = cc in let w : ⊥ = omega arith in w)
+
+pub answer-refused : (i : Image) (e : Refusal) (r : Result (Unit {0}) Refusal) → r ≡ Err e → format-refusal i ≡ Some e → r ≡ format-answer i
+answer-refused i e r q h = q ∙ sym (ap (λ (o : Option Refusal). answer o tt) h)
+
+pub left-refused : (i j : Image) (e : Refusal) → j ≡ i → format-refusal i ≡ Some e → j ≡ after-format i
+left-refused i j e q h = q ∙ sym (ap (λ (o : Option Refusal). elim o as (λ _. Image) [ Some r ↦ i | None ↦ formatted i ]) h)

@@ -6,7 +6,8 @@ ghost use lib.ListN.{getD};
 ghost use Rattle.model.specs.Image.{from-to};
 ghost use Rattle.model.specs.Volume.{after-format};
 ghost use Rattle.model.specs.Answers.{format-answer};
-ghost use Rattle.volume.specs.Blank.{blank-byte};
+ghost use Rattle.std.specs.declared.result.Result.the-variants.{Ok};
+ghost use Rattle.volume.specs.Blank.{blank-byte, Bare};
 use crate::sectors::DIRS;
 use crate::sectors::FILES;
 use crate::sectors::MAP;
@@ -25,6 +26,7 @@ const BLANK: [u8; 512] = [0; 512];
 pub fn format<S: Store>(store: &mut S) -> Result<(), Refusal>
     ensures answer { λ r. ⌜ r ≡ format-answer (image (now (store .entry))) ⌝ }
     ensures image { λ _. ⌜ image (now (store .exit)) ≡ after-format (image (now (store .entry))) ⌝ }
+    ensures bare { λ r. ⌜ (r ≡ Ok tt → Bare (image (now (store .exit)))) ⌝ }
 {
     load_checked(store)?;
     let map = blank_map(&dead_sectors(store));

@@ -1,10 +1,12 @@
 // Letting a store in, and handing it back.
-ghost use mathlib.Core.Bool.{not};
+ghost use mathlib.Core.Bool.{not, true};
+ghost use mathlib.Core.Logic.{_↔_};
 ghost use mathlib.Core.Path.{_≡_};
 ghost use Rattle.std.specs.Results.{Cases};
 ghost use Rattle.std.specs.declared.option.Option.the-variants.{Some, None};
 ghost use Rattle.std.specs.declared.result.Result.the-variants.{Ok};
 ghost use Rattle.model.specs.Answers.{inspect-answer};
+ghost use Rattle.model.specs.Meaning.{Carries};
 ghost use Rattle.model.specs.Tables.{load as tables-of};
 ghost use Rattle.model.specs.Tree.{is-some};
 ghost use Rattle.model.specs.Volume.{inspection, opened, Kept};
@@ -33,6 +35,7 @@ fn admitted<S: Store>(store: &mut S) -> Result<Consistent, Refusal>
 // Whether a volume on this store would be let in: nothing, or the refusal. The store stays as it is.
 pub fn inspect<S: Store>(store: &mut S) -> Result<(), Refusal>
     ensures answer { λ r. ⌜ r ≡ inspect-answer (image (now (store .entry))) ⌝ }
+    ensures exactly { λ r. ⌜ (r ≡ Ok tt) ↔ Carries (image (now (store .entry))) ⌝ }
     ensures image { λ _. ⌜ image (now (store .exit)) ≡ image (now (store .entry)) ⌝ }
 {
     admitted(store)?;
@@ -43,6 +46,7 @@ impl<S: Store> Volume<S> {
     // Never refuses: over a store that `inspect` refuses the volume is shut.
     pub fn open(mut store: S) -> Volume<S>
         ensures opened { λ v. ⌜ volume-view image v ≡ opened (image store) ⌝ }
+        ensures exactly { λ v. ⌜ (is-some (volume-view image v .tables) ≡ true) ↔ Carries (image store) ⌝ }
         ensures kept { λ v. ⌜ Kept (volume-view image v) ⌝ }
     {
         let tables = match admitted(&mut store) {

@@ -6,7 +6,7 @@ use Rattle.model.specs.Volume.{opened, Kept}
 use Rattle.tables.specs.Views.{view}
 use Rattle.tables.specs.declared.consistent.Consistent.{Consistent}
 use Rattle.volume.specs.Views.{kept-view}
-use Rattle.volume.proofs.Admitting.{on, opened-is, shut-is, kept-is}
+use Rattle.volume.proofs.Admitting.{on, opened-is, shut-is, kept-is, exactly-opened}
 use Rattle.volume.proofs.types.Volume.open.Needs as need
 use Rattle.volume.proofs.types.Volume.open.Needs.{in-Ok, in-Err}
 
@@ -29,4 +29,4 @@ returns g c =
         subst (λ o. Opened i i o) (sym (w .tables-is)) (record { is = opened-is i t (a .0) (a .1); kept = kept-is i t (a .0) (a .1) })
       | in-Err w ↦ subst (λ o. Opened i i o) (sym (w .tables-is)) (record { is = shut-is i _ (w .in-Err .ensures tt .answer); kept = tt })
     ]) in
-    record { opened = done .is; kept = done .kept }
+    record { opened = done .is; exactly = exactly-opened i (g .S·Store·met .wholeness (c .args .store)) (on (kept-view (c .match-admitted .tables)) (g .S·Store .image (c .admitted .last .store))) (done .is); kept = done .kept }
