@@ -11,7 +11,7 @@ ghost use Rattle.model.specs.Tables.{load as tables-of};
 ghost use Rattle.model.specs.Tree.{is-some};
 ghost use Rattle.model.specs.Volume.{inspection, opened, Kept};
 ghost use Rattle.tables.specs.Views.{view};
-ghost use Rattle.volume.specs.Views.{volume-view};
+ghost use Rattle.volume.specs.Views.{volume-view, map-answer};
 use crate::sectors::dead_sectors;
 use crate::sectors::load_checked;
 use crate::types::Volume;
@@ -69,5 +69,15 @@ impl<S: Store> Volume<S> {
         ensures { λ r. ⌜ r ≡ not (is-some (volume-view image (now (self .entry)) .tables)) ⌝ }
     {
         self.tables.is_none()
+    }
+
+    // The allocation map, a byte for each sector number: 0x00 free, 0xFF used or reserved, 0xFE dead.
+    pub fn map(&self) -> Result<[u8; 512], Refusal>
+        ensures { λ r. ⌜ r ≡ map-answer (volume-view image (now (self .entry))) ⌝ }
+    {
+        let Some(kept) = &self.tables else {
+            return Err(Refusal::Shut);
+        };
+        Ok(kept.tables().map_sector())
     }
 }
