@@ -1,5 +1,6 @@
 // The tour of the file system, step by step, printed in plain words. It grows with the layers below it.
 mod stores;
+mod volumes;
 
 use std::error::AnyError;
 
@@ -24,5 +25,6 @@ fn tour(rt: &LibcRuntime) -> Result<(), AnyError> {
         "no sector is ever in two files, and every answer is fixed beforehand."
     )?;
     println!(rt, "Proved with {KIT}.")?;
-    stores::tour(rt)
+    stores::tour(rt)?;
+    volumes::tour(rt)
 }

@@ -33,11 +33,7 @@ pub fn tour(rt: &LibcRuntime) -> Result<(), AnyError> {
     look(rt, "A window over that window", &mut window)?;
 
     println!(rt, "2. Sector {SPARE} is to serve it.")?;
-    let mended = Spare {
-        sector: DEAD,
-        spare: SPARE,
-    };
-    let mut spares = Spares::lay(worn_chip(rt)?, SPARE, vec![in rt.alloc(); mended]?);
+    let mut spares = mended_chip(rt)?;
     look(rt, "Spares over the chip", &mut spares)?;
     copy_and_compare(rt, &mut spares)?;
 
@@ -57,6 +53,15 @@ fn worn_chip(rt: &LibcRuntime) -> Result<Flat, AnyError> {
     let bytes = vec![in rt.alloc(); 0; 261 * SECTOR]?;
     let dead = vec![in rt.alloc(); DEAD]?;
     Ok(Flat::lay(bytes, dead))
+}
+
+// The same chip behind spares.
+pub fn mended_chip(rt: &LibcRuntime) -> Result<Spares<Flat>, AnyError> {
+    let mended = Spare {
+        sector: DEAD,
+        spare: SPARE,
+    };
+    Ok(Spares::lay(worn_chip(rt)?, SPARE, vec![in rt.alloc(); mended]?))
 }
 
 // Prints how large a store is, and what a read of the sector meets.

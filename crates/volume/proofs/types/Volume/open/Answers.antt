@@ -24,9 +24,9 @@ returns g c =
     let same = c .admitted .ensures .image in
     let done : Opened i (g .S·Store .image (c .admitted .last .store)) (c .match-admitted .tables) = moved i (g .S·Store .image (c .admitted .last .store)) (c .match-admitted .tables) same (elim (c .match-admitted .came) [
       | in-Ok w ↦
-        let a = w .in-Ok .ensures tt .answer in
-        let t = view (w .in-Ok .kept .tables) in
-        subst (λ o. Opened i i o) (sym (w .tables-is)) (record { is = opened-is i t (a .0) (a .1); kept = kept-is i t (a .0) (a .1) })
+          let a = w .in-Ok .ensures tt .answer in
+          let t = view (w .in-Ok .kept .tables) in
+          subst (λ o. Opened i i o) (sym (w .tables-is)) (record { is = opened-is i t (a .0) (a .1); kept = kept-is i t (a .0) (a .1) })
       | in-Err w ↦ subst (λ o. Opened i i o) (sym (w .tables-is)) (record { is = shut-is i _ (w .in-Err .ensures tt .answer); kept = tt })
     ]) in
     record { opened = done .is; exactly = exactly-opened i (g .S·Store·met .wholeness (c .args .store)) (on (kept-view (c .match-admitted .tables)) (g .S·Store .image (c .admitted .last .store))) (done .is); kept = done .kept }
