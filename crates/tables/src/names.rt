@@ -64,7 +64,7 @@ impl Entry {
                 return &self.name[0..i];
             }
         }
-        &self.name[0..NAME]
+        &self.name
     }
 
     // A proper name, filled up with 0x00.
