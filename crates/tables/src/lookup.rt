@@ -47,7 +47,11 @@ impl Tables {
     pub fn is_live_dir(&self, dir: u8) -> bool
         ensures { λ r. ⌜ r ≡ live-dir (view (now (self .entry)) .dirs) dir ⌝ }
     {
-        (dir as usize) < ENTRIES && self.dirs[dir as usize].is_live()
+        let i = dir as usize;
+        if i >= ENTRIES {
+            return false;
+        }
+        self.dirs[i].is_live()
     }
 
     // The root, or a live directory.
