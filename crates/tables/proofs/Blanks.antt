@@ -7,33 +7,44 @@ use Prim.Native.Nat.{ℕ, zero, suc, _+_, _-_, _≤_, _<_, min}
 use native.Mathlib.Omega.{arith}
 use lib.Dec.{eqb}
 use lib.ListN.{length, getD, take, drop, replicate}
-use Rattle.std.proofs.shelf.Lists.{append-assoc, append-nil, at-drop-more, at-drop-all, drop-replicate, length-append, length-replicate, take-all, take-append-le, take-more}
+use Rattle.std.proofs.shelf.Lists.{append-assoc, append-nil, at-drop-more, at-drop-all, drop-replicate, length-append, length-replicate, length-take-le, take-all, take-append-le, take-more}
 use Rattle.std.proofs.shelf.Tests.{and-right, cases-lt, eq-eqb, ne-eqb}
 use Rattle.model.specs.Image.{all}
 use Rattle.model.specs.Names.{same-name, padded}
 use Rattle.model.specs.Tables.{up-to-blank}
 
+abbrev pub is-blank : ℕ → Bool
+is-blank b = eqb b 0
+
 -- a loop up to the first 0x00 ------------------------------------------------------------------------
 
-module _ (xs : List ℕ) (i : ℕ) (s : up-to-blank xs ≡ take i xs ++ up-to-blank (drop i xs)) where
-  at-place : i < length xs → up-to-blank xs ≡ take i xs ++ cond (eqb (getD xs i 0) 0) [] (getD xs i 0 ∷ up-to-blank (drop (i + 1) xs))
-  at-place l = s ∙ ap (λ ys. take i xs ++ ys) (at-drop-more up-to-blank xs i 0 l)
+-- none of the first i is 0x00
+abbrev pub Unblank : List ℕ → ℕ → Type 0
+Unblank xs i = up-to-blank xs ≡ take i xs ++ up-to-blank (drop i xs)
 
-  pub blank-more : i < length xs → (getD xs i 0 ≡ 0 → ⊥) → up-to-blank xs ≡ take (i + 1) xs ++ up-to-blank (drop (i + 1) xs)
-  blank-more l h =
-      at-place l
-      ∙ ap (λ b. take i xs ++ cond b [] (getD xs i 0 ∷ up-to-blank (drop (i + 1) xs))) (ne-eqb (getD xs i 0) 0 h)
-      ∙ sym (append-assoc (take i xs) (getD xs i 0 ∷ []) (up-to-blank (drop (i + 1) xs)))
-      ∙ ap (λ ys. ys ++ up-to-blank (drop (i + 1) xs)) (sym (take-more xs i 0 l))
+-- the laws that the loop's invariant brings along
+pub record Blanks (xs : List ℕ) : Type 0 where
+  pub more : (i : ℕ) → i < length xs → Unblank xs i → (getD xs i 0 ≡ 0 → ⊥) → Unblank xs (i + 1)
+  pub here : (i : ℕ) → i < length xs → Unblank xs i → getD xs i 0 ≡ 0 → (up-to-blank xs ≡ take i xs) × (length (up-to-blank xs) ≡ i)
+  pub over : (i : ℕ) → length xs ≤ i → Unblank xs i → up-to-blank xs ≡ xs
 
-  pub blank-here : i < length xs → getD xs i 0 ≡ 0 → up-to-blank xs ≡ take i xs
-  blank-here l h =
-      at-place l
-      ∙ ap (λ b. take i xs ++ cond b [] (getD xs i 0 ∷ up-to-blank (drop (i + 1) xs))) (eq-eqb (getD xs i 0) 0 h)
-      ∙ append-nil (take i xs)
-
-  pub blank-over : length xs ≤ i → up-to-blank xs ≡ xs
-  blank-over l = s ∙ ap (λ ys. take i xs ++ ys) (at-drop-all up-to-blank xs i l) ∙ append-nil (take i xs) ∙ take-all i xs l
+pub blanks : (xs : List ℕ) → Blanks xs
+blanks xs =
+    record {
+      more =
+          λ i l s h.
+          at-place i l s false (ne-eqb (getD xs i 0) 0 h)
+          ∙ sym (append-assoc (take i xs) (getD xs i 0 ∷ []) (up-to-blank (drop (i + 1) xs)))
+          ∙ ap (λ ys. ys ++ up-to-blank (drop (i + 1) xs)) (sym (take-more xs i 0 l));
+      here =
+          λ i l s h.
+          let front = at-place i l s true (eq-eqb (getD xs i 0) 0 h) ∙ append-nil (take i xs) in
+          (front, ap length front ∙ length-take-le i xs (omega arith));
+      over = λ i l s. s ∙ ap (λ ys. take i xs ++ ys) (at-drop-all up-to-blank xs i l) ∙ append-nil (take i xs) ∙ take-all i xs l;
+    }
+  where
+    at-place : (i : ℕ) → i < length xs → Unblank xs i → (b : Bool) → eqb (getD xs i 0) 0 ≡ b → up-to-blank xs ≡ take i xs ++ cond b [] (getD xs i 0 ∷ up-to-blank (drop (i + 1) xs))
+    at-place i l s b h = s ∙ ap (λ ys. take i xs ++ ys) (at-drop-more up-to-blank xs i 0 l) ∙ ap (λ c. take i xs ++ cond c [] (getD xs i 0 ∷ up-to-blank (drop (i + 1) xs))) h
 
 -- filled up with 0x00 -----------------------------------------------------------------------------------
 
@@ -53,19 +64,19 @@ short-blank (x ∷ xs) = go (eqb x 0) (short-blank xs)
     go true e = omega arith
     go false e = omega arith
 
-same-blanks : (xs : List ℕ) (n : ℕ) → n ≡ length xs → same-name xs (replicate n 0) ≡ all (λ b. eqb b 0) xs
+same-blanks : (xs : List ℕ) (n : ℕ) → n ≡ length xs → same-name xs (replicate n 0) ≡ all is-blank xs
 same-blanks [] zero e = refl
 same-blanks [] (suc n) e = absurd (omega arith)
 same-blanks (x ∷ xs) zero e = absurd (omega arith)
 same-blanks (x ∷ xs) (suc n) e = ap (λ b. eqb x 0 && b) (same-blanks xs n (omega arith))
 
-same-front : (k n : ℕ) (xs : List ℕ) → k + n ≡ length xs → same-name xs (take k xs ++ replicate n 0) ≡ all (λ b. eqb b 0) (drop k xs)
+same-front : (k n : ℕ) (xs : List ℕ) → k + n ≡ length xs → same-name xs (take k xs ++ replicate n 0) ≡ all is-blank (drop k xs)
 same-front zero n xs e = same-blanks xs n (omega arith)
 same-front (suc k) n [] e = absurd (omega arith)
 same-front (suc k) n (x ∷ xs) e = ap (λ b. b && same-name xs (take k xs ++ replicate n 0)) (eq-eqb x x refl) ∙ same-front k n xs (omega arith)
 
 -- fifteen bytes are their own name, filled up, where only 0x00 follow it
-pub same-padded : (xs : List ℕ) → length xs ≡ 15 → same-name xs (padded (up-to-blank xs)) ≡ all (λ b. eqb b 0) (drop (length (up-to-blank xs)) xs)
+pub same-padded : (xs : List ℕ) → length xs ≡ 15 → same-name xs (padded (up-to-blank xs)) ≡ all is-blank (drop (length (up-to-blank xs)) xs)
 same-padded xs l =
     ap (λ ys. same-name xs (ys ++ replicate (15 - length (up-to-blank xs)) 0)) (front-blank xs)
     ∙ same-front (length (up-to-blank xs)) (15 - length (up-to-blank xs)) xs (let s = short-blank xs in omega arith)

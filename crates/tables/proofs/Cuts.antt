@@ -2,12 +2,13 @@
 use mathlib.Core.Path.{_≡_, refl, sym, ap, ap₂, subst, _∙_}
 use mathlib.Core.Bool.{Bool, true, false, cond, _&&_}
 use mathlib.Core.List.{List, [], _∷_, _++_}
-use Prim.Native.Nat.{ℕ, suc, _+_}
+use Prim.Native.Nat.{ℕ, suc, _+_, _-_, _≤_, _<_}
 use native.Mathlib.Omega.{arith}
 use lib.Dec.{eqb}
-use lib.ListN.{length, take, drop}
+use lib.ListN.{length, getD, take, drop}
 use Rattle.std.specs.declared.option.Option.{Option}
 use Rattle.std.specs.declared.option.Option.the-variants.{Some, None}
+use Rattle.std.proofs.shelf.Lists.{drop-all, drop-more, take-append-drop, take-rest}
 use Rattle.std.proofs.shelf.Tests.{cond-false, eq-eqb, eqb-true, eqb-false, ne-eqb}
 use Rattle.model.specs.Book.{last}
 use Rattle.model.specs.Names.{Name, Path, cut, names, onto, same-name, within}
@@ -57,7 +58,7 @@ cut-whole (b ∷ bs) e = go (is-slash b) (first is-slash bs) refl (cut-whole bs)
 
 -- from the last slash on -----------------------------------------------------------------------------
 
-pub cut-byte : (b : ℕ) (bs : List ℕ) → (b ≡ 0x2f → ⊥) → cut bs ≡ bs ∷ [] → cut (b ∷ bs) ≡ (b ∷ bs) ∷ []
+cut-byte : (b : ℕ) (bs : List ℕ) → (b ≡ 0x2f → ⊥) → cut bs ≡ bs ∷ [] → cut (b ∷ bs) ≡ (b ∷ bs) ∷ []
 cut-byte b bs h e = cond-false (is-slash b) ([] ∷ cut bs) (onto b (cut bs)) (ne-eqb b 0x2f h) ∙ ap (onto b) e
 
 cut-join : (p q : List ℕ) → cut (p ++ 0x2f ∷ q) ≡ cut p ++ cut q
@@ -78,8 +79,39 @@ last-names [] = refl
 last-names (b ∷ bs) = refl
 
 -- what follows the last slash
-pub last-slash : (p q : List ℕ) → cut q ≡ q ∷ [] → last (names (p ++ 0x2f ∷ q)) ≡ q
+last-slash : (p q : List ℕ) → cut q ≡ q ∷ [] → last (names (p ++ 0x2f ∷ q)) ≡ q
 last-slash p q e = last-names (p ++ 0x2f ∷ q) ∙ ap last (cut-join p q ∙ ap (λ ns. cut p ++ ns) e) ∙ last-append (cut p) q []
+
+-- the bytes from i on are one name
+abbrev pub One-name : List ℕ → ℕ → Type 0
+One-name p i = cut (drop i p) ≡ drop i p ∷ []
+
+-- the laws that a loop from the end brings along in its invariant
+pub record Lasts (p : List ℕ) : Type 0 where
+  pub start : One-name p (length p)
+  pub more : (i : ℕ) → 0 < i → i ≤ length p → One-name p i → (getD p (i - 1) 0 ≡ 0x2f → ⊥) → One-name p (i - 1)
+  pub here : (i : ℕ) → 0 < i → i ≤ length p → One-name p i → getD p (i - 1) 0 ≡ 0x2f → take (length p - (i - 1 + 1)) (drop (i - 1 + 1) p) ≡ last (names p)
+  pub over : (i : ℕ) → i ≡ 0 → One-name p i → p ≡ last (names p)
+
+pub lasts : (p : List ℕ) → Lasts p
+lasts p =
+    record {
+      start = let none = drop-all (length p) p (omega arith) in ap cut none ∙ ap (λ bs. bs ∷ []) (sym none);
+      more = λ i z l s h. ap cut (byte i z l) ∙ cut-byte (getD p (i - 1) 0) (drop i p) h s ∙ ap (λ bs. bs ∷ []) (sym (byte i z l));
+      here =
+          λ i z l s h.
+          ap (λ k. take (length p - k) (drop k p)) (back i z)
+          ∙ take-rest p i
+          ∙ sym (last-slash (take (i - 1) p) (drop i p) s)
+          ∙ ap (λ bs. last (names bs)) (sym (sym (take-append-drop (i - 1) p) ∙ ap (λ bs. take (i - 1) p ++ bs) (byte i z l ∙ ap (λ b. b ∷ drop i p) h)));
+      over = λ i z s. sym (last-names p ∙ ap last (ap (λ k. cut (drop k p)) (sym z) ∙ s ∙ ap (λ k. drop k p ∷ []) z));
+    }
+  where
+    back : (i : ℕ) → 0 < i → i - 1 + 1 ≡ i
+    back i z = omega arith
+
+    byte : (i : ℕ) → 0 < i → i ≤ length p → drop (i - 1) p ≡ getD p (i - 1) 0 ∷ drop i p
+    byte i z l = drop-more p (i - 1) 0 (omega arith) ∙ ap (λ k. getD p (i - 1) 0 ∷ drop k p) (back i z)
 
 -- a path within another ------------------------------------------------------------------------------
 

@@ -68,41 +68,36 @@ spelt-named (b ∷ bs) n l = go (is-slash b) (eqb n 15) refl (cut-parts bs) (spe
 
 -- a loop over the bytes ------------------------------------------------------------------------------
 
-pub spelt-none : (p : List ℕ) → spelt p ≡ spelt-on 0 p
-spelt-none [] = refl
-spelt-none (b ∷ bs) = sym (spelt-named (b ∷ bs) 0 (omega arith) ∙ from-none (cut (b ∷ bs)) (cut-parts (b ∷ bs)))
+-- after the first i bytes, of which n are of the name at hand
+abbrev pub Spelt-from : List ℕ → ℕ → ℕ → Type 0
+Spelt-from p i n = spelt p ≡ spelt-on n (drop i p)
 
-module _ (t : Bool) (p : List ℕ) (i n : ℕ) (l : i < length p) (s : t ≡ spelt-on n (drop i p)) where
-  at-byte : t ≡ spelt-on n (getD p i 0 ∷ drop (i + 1) p)
-  at-byte = s ∙ at-drop-more (spelt-on n) p i 0 l
+pub spelt-start : (p : List ℕ) → Spelt-from p 0 0
+spelt-start [] = refl
+spelt-start (b ∷ bs) = sym (spelt-named (b ∷ bs) 0 (omega arith) ∙ from-none (cut (b ∷ bs)) (cut-parts (b ∷ bs)))
 
-  module _ (h : getD p i 0 ≡ 0x2f) where
-    at-slash : t ≡ (ltb 0 n && spelt-on 0 (drop (i + 1) p))
-    at-slash = at-byte ∙ cond-true (is-slash (getD p i 0)) (ltb 0 n && spelt-on 0 (drop (i + 1) p)) (not (eqb n 15) && (proper-byte (getD p i 0) && spelt-on (n + 1) (drop (i + 1) p))) (eq-eqb (getD p i 0) 0x2f h)
+-- the laws that the loop's invariant brings along
+pub record Spellings (p : List ℕ) : Type 0 where
+  pub slash-first : (i n : ℕ) → i < length p → Spelt-from p i n → getD p i 0 ≡ 0x2f → n ≡ 0 → spelt p ≡ false
+  pub slash-next : (i n : ℕ) → i < length p → Spelt-from p i n → getD p i 0 ≡ 0x2f → (n ≡ 0 → ⊥) → Spelt-from p (i + 1) 0
+  pub name-full : (i n : ℕ) → i < length p → Spelt-from p i n → (getD p i 0 ≡ 0x2f → ⊥) → n ≡ 15 → spelt p ≡ false
+  pub byte-bad : (i n : ℕ) → i < length p → Spelt-from p i n → (getD p i 0 ≡ 0x2f → ⊥) → proper-byte (getD p i 0) ≡ false → spelt p ≡ false
+  pub byte-next : (i n : ℕ) → i < length p → Spelt-from p i n → (getD p i 0 ≡ 0x2f → ⊥) → (n ≡ 15 → ⊥) → proper-byte (getD p i 0) ≡ true → Spelt-from p (i + 1) (n + 1)
+  pub over : (i n : ℕ) → length p ≤ i → Spelt-from p i n → ltb 0 n ≡ spelt p
 
-    pub slash-first : n ≡ 0 → false ≡ t
-    slash-first e = sym (at-slash ∙ and-left (ltb 0 n) (spelt-on 0 (drop (i + 1) p)) (le-ltb 0 n (omega arith)))
+pub spellings : (p : List ℕ) → Spellings p
+spellings p =
+    record {
+      slash-first = λ i n l s h e. at-slash i n l s h ∙ and-left (ltb 0 n) (spelt-on 0 (drop (i + 1) p)) (le-ltb 0 n (omega arith));
+      slash-next = λ i n l s h e. at-slash i n l s h ∙ ap (λ b. b && spelt-on 0 (drop (i + 1) p)) (lt-ltb 0 n (omega arith));
+      name-full = λ i n l s h e. in-name i n l s h ∙ ap (λ b. not b && (proper-byte (getD p i 0) && spelt-on (n + 1) (drop (i + 1) p))) (eq-eqb n 15 e);
+      byte-bad = λ i n l s h e. in-name i n l s h ∙ ap (λ b. not (eqb n 15) && (b && spelt-on (n + 1) (drop (i + 1) p))) e ∙ and-right (not (eqb n 15)) false refl;
+      byte-next = λ i n l s h e f. in-name i n l s h ∙ ap₂ (λ b c. not b && (c && spelt-on (n + 1) (drop (i + 1) p))) (ne-eqb n 15 e) f;
+      over = λ i n l s. sym (s ∙ at-drop-all (spelt-on n) p i l);
+    }
+  where
+    at-slash : (i n : ℕ) → i < length p → Spelt-from p i n → getD p i 0 ≡ 0x2f → spelt p ≡ (ltb 0 n && spelt-on 0 (drop (i + 1) p))
+    at-slash i n l s h = s ∙ at-drop-more (spelt-on n) p i 0 l ∙ cond-true (is-slash (getD p i 0)) (ltb 0 n && spelt-on 0 (drop (i + 1) p)) (not (eqb n 15) && (proper-byte (getD p i 0) && spelt-on (n + 1) (drop (i + 1) p))) (eq-eqb (getD p i 0) 0x2f h)
 
-    pub slash-next : (n ≡ 0 → ⊥) → t ≡ spelt-on 0 (drop (i + 1) p)
-    slash-next e = at-slash ∙ ap (λ b. b && spelt-on 0 (drop (i + 1) p)) (lt-ltb 0 n (omega arith))
-
-  module _ (h : getD p i 0 ≡ 0x2f → ⊥) where
-    in-name : t ≡ (not (eqb n 15) && (proper-byte (getD p i 0) && spelt-on (n + 1) (drop (i + 1) p)))
-    in-name = at-byte ∙ cond-false (is-slash (getD p i 0)) (ltb 0 n && spelt-on 0 (drop (i + 1) p)) (not (eqb n 15) && (proper-byte (getD p i 0) && spelt-on (n + 1) (drop (i + 1) p))) (ne-eqb (getD p i 0) 0x2f h)
-
-    pub name-full : n ≡ 15 → false ≡ t
-    name-full e = sym (in-name ∙ ap (λ b. not b && (proper-byte (getD p i 0) && spelt-on (n + 1) (drop (i + 1) p))) (eq-eqb n 15 e))
-
-    pub byte-bad : false ≡ proper-byte (getD p i 0) → false ≡ t
-    byte-bad e =
-        sym (
-        in-name
-        ∙ ap (λ b. not (eqb n 15) && (b && spelt-on (n + 1) (drop (i + 1) p))) (sym e)
-        ∙ and-right (not (eqb n 15)) false refl
-        )
-
-    pub byte-next : (n ≡ 15 → ⊥) → true ≡ proper-byte (getD p i 0) → t ≡ spelt-on (n + 1) (drop (i + 1) p)
-    byte-next e f = in-name ∙ ap₂ (λ b c. not b && (c && spelt-on (n + 1) (drop (i + 1) p))) (ne-eqb n 15 e) (sym f)
-
-pub spelt-over : (t : Bool) (p : List ℕ) (i n : ℕ) → length p ≤ i → t ≡ spelt-on n (drop i p) → ltb 0 n ≡ t
-spelt-over t p i n l s = sym (s ∙ at-drop-all (spelt-on n) p i l)
+    in-name : (i n : ℕ) → i < length p → Spelt-from p i n → (getD p i 0 ≡ 0x2f → ⊥) → spelt p ≡ (not (eqb n 15) && (proper-byte (getD p i 0) && spelt-on (n + 1) (drop (i + 1) p)))
+    in-name i n l s h = s ∙ at-drop-more (spelt-on n) p i 0 l ∙ cond-false (is-slash (getD p i 0)) (ltb 0 n && spelt-on 0 (drop (i + 1) p)) (not (eqb n 15) && (proper-byte (getD p i 0) && spelt-on (n + 1) (drop (i + 1) p))) (ne-eqb (getD p i 0) 0x2f h)

@@ -1,8 +1,9 @@
--- One turn of a loop over a list: what is left of the list gives the answer.
+-- Loops over a list: whether all pass, and the first that passes. An invariant brings these laws along, so that the
+-- search closes each turn and each exit.
 use mathlib.Core.Path.{_≡_, refl, sym, ap, ap₂, _∙_}
 use mathlib.Core.Bool.{Bool, true, false, cond, _&&_}
 use mathlib.Core.List.{List, [], _∷_, map}
-use Prim.Native.Nat.{ℕ, zero, suc, _+_, _≤_, _<_}
+use Prim.Native.Nat.{ℕ, suc, _+_, _≤_, _<_}
 use native.Mathlib.Omega.{arith}
 use lib.ListN.{length, getD, drop}
 use Rattle.std.specs.declared.option.Option.{Option}
@@ -13,15 +14,18 @@ use Rattle.model.specs.Tree.{first, raised}
 
 -- whether all pass ---------------------------------------------------------------------------------
 
-module _ {A : Type 0} (f : A → Bool) (t : Bool) (xs : List A) (i : ℕ) where
-  pub all-more : (d : A) → i < length xs → f (getD xs i d) ≡ true → t ≡ all f (drop i xs) → t ≡ all f (drop (i + 1) xs)
-  all-more d l h s = s ∙ at-drop-more (all f) xs i d l ∙ ap (λ b. b && all f (drop (i + 1) xs)) h
+pub record Alls {A : Type 0} (f : A → Bool) (xs : List A) : Type 0 where
+  pub more : (i : ℕ) (d : A) → i < length xs → f (getD xs i d) ≡ true → all f (drop i xs) ≡ all f (drop (i + 1) xs)
+  pub fails : (i : ℕ) (d : A) → i < length xs → f (getD xs i d) ≡ false → all f (drop i xs) ≡ false
+  pub over : (i : ℕ) → length xs ≤ i → all f (drop i xs) ≡ true
 
-  pub all-fails : (d : A) → i < length xs → f (getD xs i d) ≡ false → t ≡ all f (drop i xs) → t ≡ false
-  all-fails d l h s = s ∙ at-drop-more (all f) xs i d l ∙ ap (λ b. b && all f (drop (i + 1) xs)) h
-
-  pub all-over : length xs ≤ i → t ≡ all f (drop i xs) → t ≡ true
-  all-over l s = s ∙ at-drop-all (all f) xs i l
+pub alls : {A : Type 0} (f : A → Bool) (xs : List A) → Alls f xs
+alls f xs =
+    record {
+      more = λ i d l h. at-drop-more (all f) xs i d l ∙ ap (λ b. b && all f (drop (i + 1) xs)) h;
+      fails = λ i d l h. at-drop-more (all f) xs i d l ∙ ap (λ b. b && all f (drop (i + 1) xs)) h;
+      over = λ i l. at-drop-all (all f) xs i l;
+    }
 
 -- the place of the first that passes ------------------------------------------------------------------
 
@@ -38,23 +42,28 @@ later-raised : (i : ℕ) (o : Option ℕ) → later i (raised o) ≡ later (i + 
 later-raised i None = refl
 later-raised i (Some n) = let e : i + suc n ≡ i + 1 + n = omega arith in ap Some e
 
-module _ {A : Type 0} (f : A → Bool) (xs : List A) where
-  pub first-none-yet : first f xs ≡ later 0 (first f (drop 0 xs))
-  first-none-yet = later-zero (first f xs)
+-- none of the first i passes
+abbrev pub From : {A : Type 0} → (A → Bool) → List A → ℕ → Type 0
+From f xs i = first f xs ≡ later i (first f (drop i xs))
 
-  -- x stands at i, and none before it passes
-  module _ (i : ℕ) (x : A) (l : i < length xs) (e : x ≡ getD xs i x) (s : first f xs ≡ later i (first f (drop i xs))) where
-    at-place : first f xs ≡ later i (cond (f x) (Some 0) (raised (first f (drop (i + 1) xs))))
-    at-place = s ∙ ap (later i) (at-drop-more (first f) xs i x l) ∙ ap (λ y. later i (cond (f y) (Some 0) (raised (first f (drop (i + 1) xs))))) (sym e)
+pub record Firsts {A : Type 0} (f : A → Bool) (xs : List A) : Type 0 where
+  pub more : (i : ℕ) (d : A) → i < length xs → From f xs i → f (getD xs i d) ≡ false → From f xs (i + 1)
+  pub here : (i : ℕ) (d : A) → i < length xs → From f xs i → f (getD xs i d) ≡ true → Some i ≡ first f xs
+  pub over : (i : ℕ) → length xs ≤ i → From f xs i → None ≡ first f xs
 
-    pub first-more : false ≡ f x → first f xs ≡ later (i + 1) (first f (drop (i + 1) xs))
-    first-more h = at-place ∙ ap (λ b. later i (cond b (Some 0) (raised (first f (drop (i + 1) xs))))) (sym h) ∙ later-raised i (first f (drop (i + 1) xs))
+pub from-start : {A : Type 0} (f : A → Bool) (xs : List A) → From f xs 0
+from-start f xs = later-zero (first f xs)
 
-    pub first-here : true ≡ f x → Some i ≡ first f xs
-    first-here h = sym (at-place ∙ ap (λ b. later i (cond b (Some 0) (raised (first f (drop (i + 1) xs))))) (sym h) ∙ (let n : i + 0 ≡ i = omega arith in ap Some n))
-
-  pub first-over : (i : ℕ) → length xs ≤ i → first f xs ≡ later i (first f (drop i xs)) → None ≡ first f xs
-  first-over i l s = sym (s ∙ ap (later i) (at-drop-all (first f) xs i l))
+pub firsts : {A : Type 0} (f : A → Bool) (xs : List A) → Firsts f xs
+firsts {A} f xs =
+    record {
+      more = λ i d l s h. at-place i d l s false h ∙ later-raised i (first f (drop (i + 1) xs));
+      here = λ i d l s h. sym (at-place i d l s true h ∙ (let n : i + 0 ≡ i = omega arith in ap Some n));
+      over = λ i l s. sym (s ∙ ap (later i) (at-drop-all (first f) xs i l));
+    }
+  where
+    at-place : (i : ℕ) (d : A) → i < length xs → From f xs i → (b : Bool) → f (getD xs i d) ≡ b → first f xs ≡ later i (cond b (Some 0) (raised (first f (drop (i + 1) xs))))
+    at-place i d l s b h = s ∙ ap (later i) (at-drop-more (first f) xs i d l) ∙ ap (λ c. later i (cond c (Some 0) (raised (first f (drop (i + 1) xs))))) h
 
 pub first-map : {A B : Type 0} (f : B → Bool) (g : A → B) (xs : List A) → first f (map g xs) ≡ first (λ x. f (g x)) xs
 first-map f g [] = refl

@@ -1,9 +1,12 @@
 // An entry as its sixteen bytes: one for the parent, then fifteen for the name.
 ghost use mathlib.Core.Bool.{not};
 ghost use mathlib.Core.Path.{_≡_};
-ghost use lib.ListN.{length};
+ghost use Prim.Native.Nat.{_≤_};
+ghost use lib.ListN.{length, take};
+ghost use Rattle.model.specs.Names.{padded as padded-name};
 ghost use Rattle.model.specs.Tables.{entry, entries, entries-bytes, live};
 ghost use Rattle.tables.specs.Views.{entry-view, entries-view};
+use crate::names::padded;
 use crate::sizes::ENTRIES;
 use crate::sizes::ENTRY;
 use crate::sizes::NAME;
@@ -16,6 +19,15 @@ impl Entry {
         parent: 0,
         name: [0; NAME],
     };
+
+    // An entry of a name, which is filled up with 0x00. Past fifteen bytes a name is cut off.
+    pub fn new(parent: u8, name: &[u8]) -> Entry
+        ensures value { λ e. ⌜ (e .parent ≡ parent) × (e .name ≡ take 15 (padded-name (now (name .entry)))) ⌝ }
+        ensures fits { λ e. ⌜ (length (now (name .entry)) ≤ 15 → e .name ≡ padded-name (now (name .entry))) ⌝ }
+    {
+        let name = padded(name);
+        Entry { parent, name }
+    }
 
     // The entry that sixteen bytes hold.
     pub(crate) fn decode(bytes: &[u8]) -> Entry

@@ -6,7 +6,7 @@ ghost use Rattle.std.specs.Options.{Cases};
 ghost use Rattle.std.specs.Slices.{found};
 ghost use Rattle.std.specs.declared.option.Option.the-variants.{Some, None};
 ghost use Rattle.model.specs.Book.{last};
-ghost use Rattle.model.specs.Names.{names};
+ghost use Rattle.model.specs.Names.{names, same-name};
 ghost use Rattle.model.specs.Tables.{live-dir};
 ghost use Rattle.model.specs.Volume.{child as child-of, holder as holder-of, item-in, named, starts};
 ghost use Rattle.tables.specs.Views.{entries-view, view};
@@ -19,6 +19,13 @@ use crate::types::Entry;
 use crate::types::Tables;
 use model::types::Kind;
 
+// Whether an entry's name is these fifteen bytes.
+fn is_named(entry: &Entry, wanted: &[u8; NAME]) -> bool
+    ensures { λ r. ⌜ r ≡ same-name (now (entry .entry) .name) (now (wanted .entry)) ⌝ }
+{
+    entry.name == *wanted
+}
+
 // The number of the entry with this parent and this name.
 pub fn child(entries: &[Entry; ENTRIES], parent: u8, name: &[u8]) -> Option<u8>
     ensures value { λ r. ⌜ r ≡ child-of (entries-view (now (entries .entry))) parent (now (name .entry)) ⌝ }
@@ -29,7 +36,7 @@ pub fn child(entries: &[Entry; ENTRIES], parent: u8, name: &[u8]) -> Option<u8>
     }
     let wanted = padded(name);
     for (i, entry) in entries.iter().enumerate() {
-        if entry.parent == parent && entry.name == wanted {
+        if entry.parent == parent && is_named(entry, &wanted) {
             return Some(i as u8);
         }
     }
@@ -40,7 +47,11 @@ impl Tables {
     pub fn is_live_dir(&self, dir: u8) -> bool
         ensures { λ r. ⌜ r ≡ live-dir (view (now (self .entry)) .dirs) dir ⌝ }
     {
-        (dir as usize) < ENTRIES && self.dirs[dir as usize].is_live()
+        let i = dir as usize;
+        if i >= ENTRIES {
+            return false;
+        }
+        self.dirs[i].is_live()
     }
 
     // The root, or a live directory.

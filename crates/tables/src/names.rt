@@ -44,7 +44,7 @@ pub fn precedes(a: &[u8], b: &[u8]) -> bool
 }
 
 // A name as an entry holds it: filled up with 0x00. Past fifteen bytes a name is cut off.
-pub fn padded(name: &[u8]) -> [u8; NAME]
+pub(crate) fn padded(name: &[u8]) -> [u8; NAME]
     ensures value { λ r. ⌜ r ≡ take 15 (padded-name (now (name .entry))) ⌝ }
     ensures fits { λ r. ⌜ (length (now (name .entry)) ≤ 15 → r ≡ padded-name (now (name .entry))) ⌝ }
 {
@@ -64,7 +64,7 @@ impl Entry {
                 return &self.name[0..i];
             }
         }
-        &self.name[0..NAME]
+        &self.name
     }
 
     // A proper name, filled up with 0x00.

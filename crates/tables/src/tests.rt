@@ -82,10 +82,7 @@ fn paths_within_paths() -> Result<(), Fail> {
 
 #[test]
 fn lowest_free_slot() -> Result<(), Fail> {
-    let live = Entry {
-        parent: 0xff,
-        name: names::padded(b"a"),
-    };
+    let live = Entry::new(0xff, b"a");
     check_eq(slots::first_free(&[live, live]), None)?;
     check_eq(
         slots::first_free(&[live, Entry::FREE, Entry::FREE]),

@@ -1,8 +1,5 @@
-use mathlib.Core.Path.{_≡_}
-use mathlib.Core.List.{[], _∷_}
-use lib.ListN.{drop}
-use Rattle.model.specs.Names.{cut}
+use Rattle.tables.proofs.Cuts.{Lasts, One-name}
 use Rattle.tables.proofs.paths.last_name.Given as given
 
 abbrev pub Inv-loop-i : given.InvT-loop-i
-Inv-loop-i l = cut (drop (l .i) (l .path)) ≡ drop (l .i) (l .path) ∷ []
+Inv-loop-i l = One-name (l .path) (l .i) × Lasts (l .path)

@@ -1,9 +1,6 @@
-use mathlib.Core.Path.{_≡_}
-use lib.ListN.{drop}
-use Rattle.model.specs.Tree.{first}
 use Rattle.tables.proofs.Cuts.{is-slash}
-use Rattle.tables.proofs.Steps.{later}
+use Rattle.tables.proofs.Steps.{Firsts, From}
 use Rattle.tables.proofs.paths.slash.Given as given
 
 abbrev pub Inv-loop-i : given.InvT-loop-i
-Inv-loop-i l = first is-slash (l .path) ≡ later (l .i) (first is-slash (drop (l .i) (l .path)))
+Inv-loop-i l = From is-slash (l .path) (l .i) × Firsts is-slash (l .path)

@@ -1,28 +1,7 @@
-use mathlib.Core.Path.{_≡_, refl, ap, _∙_}
-use mathlib.Core.List.{List}
-use Prim.Native.Nat.{ℕ, _*_, _+_, _-_, _≤_}
-use native.Mathlib.Omega.{arith}
-use lib.ListN.{length, set, take, drop}
-use Rattle.std.proofs.shelf.Lists.{length-set, map-id}
-use Rattle.model.specs.Tables.{parts}
+use mathlib.Core.Path.{refl}
 use Rattle.tables.specs.declared.types.Row.{Row}
-use Rattle.tables.proofs.Pieces.{read-more, read-all}
+use Rattle.tables.proofs.Pieces.{reads}
 use Rattle.tables.proofs.rows.decode.Needs as need
 
 pub loop-i-holds : need.loop-i-holds
-loop-i-holds c = (refl, refl)
-
-pub loop-i-again : need.loop-i-again
-loop-i-again c =
-    let sector = c .args .sector .now in
-    let items = c .loop-i .row-items in
-    let i = c .loop-i .i in
-    let wide : 16 * i + 16 - 16 * i ≡ 16 = omega arith in (
-      length-set items i (c .decode .result) ∙ c .loop-i .inv .0,
-      read-more (λ (r : Row). r .places) (λ bs. bs) sector items i (c .decode .result) (let n = c .loop-i .inv .0 in omega arith) (c .decode .ensures ∙ ap (λ k. take k (drop (16 * i) sector)) wide) (c .loop-i .inv .1),
-    )
-
-pub returns : need.returns
-returns c =
-    read-all (λ (r : Row). r .places) (λ bs. bs) (c .args .sector .now) (c .loop-i .row-items) (c .loop-i .i) 32 (omega arith) (c .loop-i .inv .0) (c .loop-i .inv .1)
-    ∙ map-id (parts 32 (c .args .sector .now))
+loop-i-holds c = (refl, refl, reads (λ (r : Row). r .places) (λ bs. bs) 32 (c .args .sector .now))

@@ -1,9 +1,7 @@
 use mathlib.Core.Path.{_≡_}
-use Prim.Native.Nat.{_*_}
-use lib.ListN.{length, take}
-use Rattle.model.specs.Tables.{rows-bytes}
-use Rattle.tables.specs.Views.{rows-view}
+use lib.ListN.{length}
+use Rattle.tables.proofs.Pieces.{Row-writes, Rows-in}
 use Rattle.tables.proofs.rows.encode.Given as given
 
 abbrev pub Inv-loop-i : given.InvT-loop-i
-Inv-loop-i l = (length (l .sector) ≡ 512) × (take (16 * l .i) (l .sector) ≡ rows-bytes (rows-view (take (l .i) (l .all))))
+Inv-loop-i l = (length (l .sector) ≡ 512) × Rows-in (l .all) (l .i) (l .sector) × Row-writes (l .all)
