@@ -1,12 +1,12 @@
 -- A climb to the root, one parent after another.
-use mathlib.Core.Path.{_≡_, refl, sym, ap, _∙_}
+use mathlib.Core.Path.{_≡_, sym, ap, _∙_}
 use mathlib.Core.Bool.{Bool, true, false, _&&_, _||_}
 use mathlib.Core.List.{List}
 use Prim.Native.Nat.{ℕ, suc, _+_, _-_, _≤_, _<_}
 use native.Mathlib.Omega.{arith}
 use lib.Dec.{eqb}
 use lib.ListN.{getD}
-use Rattle.std.proofs.shelf.Tests.{eq-eqb, ne-eqb}
+use Rattle.std.proofs.shelf.Tests.{ne-eqb}
 use Rattle.model.specs.Tables.{Entry, root, no-entry, live-dir, climbs}
 use Rattle.model.proofs.Tables.Climbs.{climbs-root}
 

@@ -1,11 +1,13 @@
 pub mod Admission
 pub mod Apart
 pub mod Blanks
+pub mod Bools
 pub mod Claiming
 pub mod Climbing
 pub mod Cuts
 pub mod Descents
 pub mod Due
+pub mod Gathering
 pub mod Pieces
 pub mod Scans
 pub mod Seeks

@@ -1,12 +1,10 @@
 // The sectors that the files' rows claim, each of them once, and the marks that are due to them.
-ghost use mathlib.Core.Bool.{Bool, true, false, cond, not, _&&_, _||_};
+ghost use mathlib.Core.Bool.{true, false, not, _&&_, _||_};
 ghost use mathlib.Core.Path.{_≡_};
-ghost use Prim.Native.Nat.{ℕ, _<_};
-ghost use lib.Dec.{leb, ltb, eqb};
-ghost use lib.ListN.{length, getD, drop};
+ghost use Prim.Native.Nat.{ℕ};
 ghost use Rattle.std.specs.Options.{Cases};
-ghost use Rattle.model.specs.Sizes.{first-data, last-data, mark-free, mark-used, mark-dead, blank};
-ghost use Rattle.model.specs.Tables.{all, data-sector, used, member, distinct, live-places, proper-row, proper-rows, marks-right};
+ghost use Rattle.model.specs.Tables.{data-sector, used, member, proper-row, marks-right};
+ghost use Rattle.tables.specs.Rules.{told, alive-by, filled-up, unclaimed, Claimed, due, rows-sound};
 ghost use Rattle.tables.specs.Views.{view};
 use crate::sizes::ENTRIES;
 use crate::sizes::FIRST_DATA;
@@ -17,9 +15,9 @@ use crate::types::MarkPartialEq;
 use crate::types::Row;
 use crate::types::Tables;
 
-// A data sector that is alive and that no row has claimed yet.
+// A data sector that is alive and that no row has claimed yet; a byte is never past the last data sector.
 fn is_claimable(sector: u8, dead: &[bool; 256], claimed: &[bool; 256]) -> bool
-    ensures { λ r. ⌜ r ≡ (data-sector sector && not (getD (now (dead .entry)) sector true) && not (getD (now (claimed .entry)) sector true)) ⌝ }
+    ensures { λ r. ⌜ r ≡ (data-sector sector && alive-by (now (dead .entry)) sector && not (told (now (claimed .entry)) sector)) ⌝ }
 {
     sector >= FIRST_DATA && !dead[sector as usize] && !claimed[sector as usize]
 }
@@ -27,7 +25,7 @@ fn is_claimable(sector: u8, dead: &[bool; 256], claimed: &[bool; 256]) -> bool
 impl Row {
     // One place or more is used, and those behind are 0x00.
     fn is_filled_up(&self) -> bool
-        ensures { λ r. ⌜ r ≡ (leb 1 (length (used (now (self .entry) .places))) && all (λ s. eqb s blank) (drop (length (used (now (self .entry) .places))) (now (self .entry) .places))) ⌝ }
+        ensures { λ r. ⌜ r ≡ filled-up (now (self .entry) .places) ⌝ }
     {
         let count = self.count();
         for i in count..PLACES {
@@ -40,8 +38,8 @@ impl Row {
 
     // Claims the row's sectors, unless the row is no proper one or names a sector that is claimed already.
     fn claim(&self, dead: &[bool; 256], claimed: &mut [bool; 256]) -> bool
-        ensures answer { λ r. ⌜ r ≡ (proper-row (λ s. not (getD (now (dead .entry)) s true)) (now (self .entry) .places) && (distinct (used (now (self .entry) .places)) && all (λ s. not (getD (now (claimed .entry)) s true)) (used (now (self .entry) .places)))) ⌝ }
-        ensures after { λ r. ⌜ (r ≡ true → (s : ℕ) → getD (now (claimed .exit)) s true ≡ (member s (used (now (self .entry) .places)) || getD (now (claimed .entry)) s true)) ⌝ }
+        ensures answer { λ r. ⌜ r ≡ (proper-row (alive-by (now (dead .entry))) (now (self .entry) .places) && unclaimed (told (now (claimed .entry))) (used (now (self .entry) .places))) ⌝ }
+        ensures after { λ r. ⌜ (r ≡ true → (s : ℕ) → told (now (claimed .exit)) s ≡ (member s (used (now (self .entry) .places)) || told (now (claimed .entry)) s)) ⌝ }
     {
         if !self.is_filled_up() {
             return false;
@@ -59,7 +57,7 @@ impl Row {
 
 // The mark that is due to a sector.
 fn due_mark(sector: usize, dead: &[bool; 256], claimed: &[bool; 256]) -> Mark
-    ensures { λ r. ⌜ r .0 ≡ cond (ltb sector first-data) mark-used (cond (ltb last-data sector) mark-free (cond (getD (now (dead .entry)) sector true) mark-dead (cond (getD (now (claimed .entry)) sector true) mark-used mark-free))) ⌝ }
+    ensures { λ r. ⌜ r .0 ≡ due (now (dead .entry)) (now (claimed .entry)) sector ⌝ }
 {
     if sector < FIRST_DATA as usize {
         Mark::USED
@@ -77,7 +75,7 @@ fn due_mark(sector: usize, dead: &[bool; 256], claimed: &[bool; 256]) -> Mark
 impl Tables {
     // The sectors that live files' rows name, if each such row is proper and no sector is named twice.
     pub(crate) fn claimed(&self, dead: &[bool; 256]) -> Option<[bool; 256]>
-        ensures { λ r. ⌜ Cases r ((proper-rows (λ s. not (getD (now (dead .entry)) s true)) (view (now (self .entry)) .files) (view (now (self .entry)) .rows) && distinct (live-places (view (now (self .entry)) .files) (view (now (self .entry)) .rows))) ≡ false) (λ c. ((proper-rows (λ s. not (getD (now (dead .entry)) s true)) (view (now (self .entry)) .files) (view (now (self .entry)) .rows) && distinct (live-places (view (now (self .entry)) .files) (view (now (self .entry)) .rows))) ≡ true) × ((s : ℕ) → s < 256 → getD c s true ≡ member s (live-places (view (now (self .entry)) .files) (view (now (self .entry)) .rows)))) ⌝ }
+        ensures { λ r. ⌜ Cases r (rows-sound (alive-by (now (dead .entry))) (view (now (self .entry))) ≡ false) (λ c. (rows-sound (alive-by (now (dead .entry))) (view (now (self .entry))) ≡ true) × Claimed (view (now (self .entry))) c) ⌝ }
     {
         let mut claimed = [false; 256];
         for i in 0..ENTRIES {
@@ -90,8 +88,8 @@ impl Tables {
 
     // Every mark is the one that is due.
     pub(crate) fn marks_are_right(&self, dead: &[bool; 256], claimed: &[bool; 256]) -> bool
-        requires { ⌜ ((s : ℕ) → s < 256 → getD (now claimed) s true ≡ member s (live-places (view (now self) .files) (view (now self) .rows))) ⌝ }
-        ensures { λ r. ⌜ r ≡ marks-right (λ s. not (getD (now (dead .entry)) s true)) (view (now (self .entry))) ⌝ }
+        requires { ⌜ Claimed (view (now self)) (now claimed) ⌝ }
+        ensures { λ r. ⌜ r ≡ marks-right (alive-by (now (dead .entry))) (view (now (self .entry))) ⌝ }
     {
         for (sector, mark) in self.marks.iter().enumerate() {
             if *mark != due_mark(sector, dead, claimed) {

@@ -1,15 +1,19 @@
 // Whether tables are sound, decided in one pass over each table; only the 64 entries are compared each with each.
-ghost use mathlib.Core.Bool.{not, true, _&&_, _||_};
+ghost use mathlib.Core.Bool.{not, true};
 ghost use mathlib.Core.List.{_++_};
 ghost use mathlib.Core.Path.{_≡_};
 ghost use lib.ListN.{getD};
 ghost use Rattle.model.specs.Sizes.{entry-count};
-ghost use Rattle.model.specs.Tables.{all, each, live-dir, proper-entry, climbs, same-place, unshared, sound-by};
+ghost use Rattle.model.specs.Tables.{all, proper-entry, climbs, same-place, unshared, sound-by};
+ghost use Rattle.tables.specs.Rules.{rooted, entries-sound};
 ghost use Rattle.tables.specs.Views.{view, entry-view, entries-view};
 use crate::sizes::ENTRIES;
 use crate::sizes::ROOT;
 use crate::types::Entry;
 use crate::types::Tables;
+
+#[cfg(test)]
+mod tests;
 
 impl Entry {
     // Both are live, in one directory, and have one name.
@@ -57,7 +61,7 @@ impl Tables {
 
     // Names and parents, apart from the files' sectors.
     fn entries_are_sound(&self) -> bool
-        ensures { λ r. ⌜ r ≡ ((all (proper-entry (view (now (self .entry)) .dirs)) (view (now (self .entry)) .dirs) && all (proper-entry (view (now (self .entry)) .dirs)) (view (now (self .entry)) .files)) && each 0 entry-count (λ d. not (live-dir (view (now (self .entry)) .dirs) d) || climbs (view (now (self .entry)) .dirs) entry-count d) && unshared (view (now (self .entry)) .dirs ++ view (now (self .entry)) .files)) ⌝ }
+        ensures { λ r. ⌜ r ≡ entries-sound (view (now (self .entry))) ⌝ }
     {
         if !self.entries_are_proper(&self.dirs) || !self.entries_are_proper(&self.files) {
             return false;
@@ -101,7 +105,7 @@ impl Tables {
     }
 
     fn dirs_climb(&self) -> bool
-        ensures { λ r. ⌜ r ≡ each 0 entry-count (λ d. not (live-dir (view (now (self .entry)) .dirs) d) || climbs (view (now (self .entry)) .dirs) entry-count d) ⌝ }
+        ensures { λ r. ⌜ r ≡ rooted (view (now (self .entry))) ⌝ }
     {
         for dir in 0..ENTRIES as u8 {
             if self.is_live_dir(dir) && !self.climbs(dir) {

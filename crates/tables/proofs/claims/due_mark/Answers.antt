@@ -1,11 +1,7 @@
-use mathlib.Core.Path.{_≡_}
 use mathlib.Core.Bool.{true, false}
-use Prim.Native.Nat.{_<_}
 use native.Mathlib.Omega.{arith}
-use lib.ListN.{length, getD}
 use Rattle.std.proofs.shelf.Lists.{getD-default}
 use Rattle.std.proofs.shelf.Ways.{tells}
-use borrow.Author.Needs.{needs}
 use Rattle.tables.proofs.claims.due_mark.Needs as need
 
 pub returns-then-claimed-sector : need.returns-then-claimed-sector

@@ -1,5 +1,5 @@
-use mathlib.Core.Path.{refl, ap}
-use mathlib.Core.Bool.{Bool, not}
+use mathlib.Core.Path.{_≡_, refl, ap}
+use mathlib.Core.Bool.{Bool, true, false, not}
 use mathlib.Core.List.{List}
 use Rattle.model.specs.Tables.{all, same-place}
 use Rattle.tables.specs.declared.types.Entry.{Entry}
@@ -18,10 +18,18 @@ pub loop-other-holds : need.loop-other-holds
 loop-other-holds c = refl
 
 pub loop-other-again : need.loop-other-again
-loop-other-again c = let e = c .args .self .now in passed (rest e) (head e) (λ o os. refl) (c .args .others .now) (c .loop-other .other-index) (c .other-item .result) (c .loop-other-test .taken) (c .other-item .is) (ap not (c .if-shares-place .ensures tt)) (c .loop-other .inv)
+loop-other-again c =
+    let e = c .args .self .now in
+    let o = c .other-item .result in
+    let h : false ≡ same-place (entry-view e) (entry-view o) = c .if-shares-place .ensures tt in
+    passed (rest e) (head e) (λ o os. refl) (c .args .others .now) (c .loop-other .other-index) o (c .loop-other-test .taken) (c .other-item .is) (ap not h) (c .loop-other .inv)
 
 pub returns-then-shares-place : need.returns-then-shares-place
-returns-then-shares-place c = let e = c .args .self .now in failed (rest e) (head e) (λ o os. refl) (c .args .others .now) (c .loop-other .other-index) (c .other-item .result) (c .loop-other-test .taken) (c .other-item .is) (ap not (c .if-shares-place .ensures tt)) (c .loop-other .inv)
+returns-then-shares-place c =
+    let e = c .args .self .now in
+    let o = c .other-item .result in
+    let h : true ≡ same-place (entry-view e) (entry-view o) = c .if-shares-place .ensures tt in
+    failed (rest e) (head e) (λ o os. refl) (c .args .others .now) (c .loop-other .other-index) o (c .loop-other-test .taken) (c .other-item .is) (ap not h) (c .loop-other .inv)
 
 pub returns : need.returns
 returns c = let e = c .args .self .now in ended (rest e) (head e) (λ o os. refl) (c .args .others .now) (c .loop-other .other-index) (c .loop-other-test .left) (c .loop-other .inv)

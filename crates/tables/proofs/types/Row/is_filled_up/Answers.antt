@@ -1,7 +1,7 @@
 use mathlib.Core.Path.{_≡_, refl, sym, ap, _∙_}
-use mathlib.Core.Bool.{Bool, true, false, _&&_}
+use mathlib.Core.Bool.{Bool, true, false, _&&_, and-true, and-false}
 use mathlib.Core.List.{List}
-use Prim.Native.Nat.{ℕ, _+_, _<_, _≤_}
+use Prim.Native.Nat.{ℕ, _+_, _<_}
 use native.Mathlib.Omega.{arith}
 use lib.Dec.{eqb, leb}
 use lib.ListN.{length, getD, drop}
@@ -18,14 +18,6 @@ blanks r = all (λ s. eqb s 0) r
 next : (r : List ℕ) (i : ℕ) (b : Bool) → i < length r → eqb (getD r i 0) 0 ≡ b → blanks (drop i r) ≡ (b && blanks (drop (i + 1) r))
 next r i b l e = at-drop-more blanks r i 0 l ∙ ap (λ x. x && blanks (drop (i + 1) r)) e
 
-right-false : (a : Bool) → false ≡ (a && false)
-right-false true = refl
-right-false false = refl
-
-right-true : (a : Bool) → a ≡ (a && true)
-right-true true = refl
-right-true false = refl
-
 pub loop-i-holds : need.loop-i-holds
 loop-i-holds c = refl
 
@@ -33,7 +25,7 @@ pub returns-then-self-i-ne0 : need.returns-then-self-i-ne0
 returns-then-self-i-ne0 c =
     let r = c .args .self .now .places in
     let fails = sym (next r (c .loop-i .i) false (omega arith) (ne-eqb (getD r (c .loop-i .i) 0) 0 (c .if-self-i-ne0 .taken))) ∙ c .loop-i .inv ∙ ap (λ n. blanks (drop n r)) (c .count-count .ensures) in
-    right-false (leb 1 (length (used r))) ∙ ap (λ b. leb 1 (length (used r)) && b) fails
+    sym (and-false (leb 1 (length (used r)))) ∙ ap (λ b. leb 1 (length (used r)) && b) fails
 
 pub loop-i-again : need.loop-i-again
 loop-i-again c =
@@ -45,4 +37,4 @@ returns c =
     let r = c .args .self .now .places in
     let short = used-short r in
     let all-blank = sym (at-drop-all blanks r (c .loop-i .i) (omega arith)) ∙ c .loop-i .inv ∙ ap (λ n. blanks (drop n r)) (c .count-count .ensures) in
-    ap (λ n. leb 1 n) (c .count-count .ensures) ∙ right-true (leb 1 (length (used r))) ∙ ap (λ b. leb 1 (length (used r)) && b) all-blank
+    ap (λ n. leb 1 n) (c .count-count .ensures) ∙ sym (and-true (leb 1 (length (used r)))) ∙ ap (λ b. leb 1 (length (used r)) && b) all-blank

@@ -1,6 +1,5 @@
 use mathlib.Core.Path.{_≡_, refl, sym, subst}
-use mathlib.Core.Bool.{Bool, true, not}
-use mathlib.Core.List.{List, []}
+use mathlib.Core.List.{[]}
 use Prim.Native.Nat.{ℕ, _+_, _<_}
 use native.Mathlib.Omega.{arith}
 use lib.ListN.{length, getD}
@@ -9,17 +8,11 @@ use Rattle.model.specs.Tables.{no-entry}
 use Rattle.tables.specs.declared.types.Entry.{Entry}
 use Rattle.tables.specs.declared.types.Row.{Row}
 use Rattle.tables.specs.declared.types.Tables.{Tables}
+use Rattle.tables.specs.Rules.{alive-by}
 use Rattle.tables.specs.Views.{view, entry-view}
-use Rattle.tables.proofs.Claiming.{Claims, none-claimed, all-claimed, free-passes, row-claims, row-refused}
+use Rattle.tables.proofs.Gathering.{Claims, none-claimed, all-claimed, free-passes, row-claims, row-refused}
 use Rattle.tables.proofs.types.Tables.claimed.Needs as need
 use Rattle.tables.proofs.types.Tables.claimed.Needs.{else-is-live·by·then-is-live·else-not-claim as claims, else-is-live·by·else-is-live as free}
-
-abbrev alive : List Bool → ℕ → Bool
-alive dead s = not (getD dead s true)
-
--- the rows of i files have claimed their sectors
-abbrev Done : Tables → List Bool → List Bool → ℕ → Type 0
-Done t dead claimed i = Claims (alive dead) (view t .files) (view t .rows) claimed i
 
 in-files : (t : Tables) (i : ℕ) → i < 32 → i < length (view t .files)
 in-files t i l = let h = length-map (t .files) entry-view in let f = t .filed in omega arith
@@ -34,7 +27,7 @@ row-at : (t : Tables) (i : ℕ) (r : Row) → i < 32 → getD (view t .rows) i [
 row-at t i r l = let f = t .rowed in getD-map (λ (r : Row). r .places) (t .rows) i r [] (omega arith)
 
 pub loop-i-holds : need.loop-i-holds
-loop-i-holds c = none-claimed (alive (c .args .dead .now)) (view (c .args .self .now) .files) (view (c .args .self .now) .rows)
+loop-i-holds c = none-claimed (alive-by (c .args .dead .now)) (view (c .args .self .now))
 
 pub returns-then-not-claim : need.returns-then-not-claim
 returns-then-not-claim c =
@@ -42,7 +35,7 @@ returns-then-not-claim c =
     let i = c .loop-i .i in
     let e = getD (t .files) i (c .index-self-i .result) in
     let r = getD (t .rows) i (c .index-self-i-then-is-live .result) in
-    row-refused (alive (c .args .dead .now)) (view t .files) (view t .rows) (c .loop-i .claimed) i (c .loop-i .inv) (in-files t i (c .loop-i-test .taken)) (in-rows t i (c .loop-i-test .taken)) (entry-view e) (r .places)
+    row-refused (alive-by (c .args .dead .now)) (view t) (c .loop-i .claimed) i (c .loop-i .inv) (in-files t i (c .loop-i-test .taken)) (in-rows t i (c .loop-i-test .taken)) (entry-view e) (r .places)
     (file-at t i (c .index-self-i .result) (c .loop-i-test .taken)) (row-at t i (c .index-self-i-then-is-live .result) (c .loop-i-test .taken))
     (sym (c .if-is-live .ensures tt)) (c .if-not-claim .ensures tt .answer)
 
@@ -55,15 +48,15 @@ loop-i-again c =
     elim (c .else-is-live .came) [
       | claims w ↦
           let r = getD (t .rows) i (w .index-self-i-then-is-live .result) in
-          subst (λ d. Done t dead d (i + 1)) (sym (w .claimed-is))
-          (row-claims (alive dead) (view t .files) (view t .rows) (c .loop-i .claimed) i (c .loop-i .inv) (in-files t i (c .loop-i-test .taken)) (in-rows t i (c .loop-i-test .taken)) (entry-view e) (r .places)
+          subst (λ d. Claims (alive-by dead) (view t) d (i + 1)) (sym (w .claimed-is))
+          (row-claims (alive-by dead) (view t) (c .loop-i .claimed) i (c .loop-i .inv) (in-files t i (c .loop-i-test .taken)) (in-rows t i (c .loop-i-test .taken)) (entry-view e) (r .places)
           (file-at t i (c .index-self-i .result) (c .loop-i-test .taken)) (row-at t i (w .index-self-i-then-is-live .result) (c .loop-i-test .taken))
           (sym (w .if-is-live .ensures tt)) (w .if-not-claim .ensures tt .answer) (w .claim .last .claimed) (w .claim .array-long) (w .if-not-claim .ensures tt .after refl))
       | free w ↦
-          subst (λ d. Done t dead d (i + 1)) (sym (w .claimed-is))
-          (free-passes (alive dead) (view t .files) (view t .rows) (c .loop-i .claimed) i (c .loop-i .inv) (in-files t i (c .loop-i-test .taken)) (in-rows t i (c .loop-i-test .taken)) (entry-view e) (getD (view t .rows) i [])
+          subst (λ d. Claims (alive-by dead) (view t) d (i + 1)) (sym (w .claimed-is))
+          (free-passes (alive-by dead) (view t) (c .loop-i .claimed) i (c .loop-i .inv) (in-files t i (c .loop-i-test .taken)) (in-rows t i (c .loop-i-test .taken)) (entry-view e) (getD (view t .rows) i [])
           (file-at t i (c .index-self-i .result) (c .loop-i-test .taken)) refl (sym (w .if-is-live .ensures tt)))
     ]
 
 pub returns : need.returns
-returns c = let t = c .args .self .now in all-claimed (alive (c .args .dead .now)) (view t .files) (view t .rows) (c .loop-i .claimed) (c .loop-i .i) (let h = length-map (t .files) entry-view in omega arith) (c .loop-i .inv)
+returns c = let t = c .args .self .now in all-claimed (alive-by (c .args .dead .now)) (view t) (c .loop-i .claimed) (c .loop-i .i) (let h = length-map (t .files) entry-view in omega arith) (c .loop-i .inv)

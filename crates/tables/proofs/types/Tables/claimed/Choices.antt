@@ -1,8 +1,7 @@
-use mathlib.Core.Bool.{true, not}
-use lib.ListN.{getD}
+use Rattle.tables.specs.Rules.{alive-by}
 use Rattle.tables.specs.Views.{view}
-use Rattle.tables.proofs.Claiming.{Claims}
+use Rattle.tables.proofs.Gathering.{Claims}
 use Rattle.tables.proofs.types.Tables.claimed.Given as given
 
 abbrev pub Inv-loop-i : given.InvT-loop-i
-Inv-loop-i l = Claims (λ s. not (getD (l .dead) s true)) (view (l .self) .files) (view (l .self) .rows) (l .claimed) (l .i)
+Inv-loop-i l = Claims (alive-by (l .dead)) (view (l .self)) (l .claimed) (l .i)

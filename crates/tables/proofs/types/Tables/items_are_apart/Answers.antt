@@ -1,16 +1,21 @@
-use mathlib.Core.Path.{_≡_, refl, ap, _∙_}
+use mathlib.Core.Path.{_≡_, refl, sym, ap, _∙_}
 use mathlib.Core.Bool.{Bool, true, false, not}
 use mathlib.Core.List.{List, _++_}
-use Prim.Native.Nat.{_+_, _-_}
+use Prim.Native.Nat.{ℕ, _+_, _-_}
 use native.Mathlib.Omega.{arith}
-use lib.ListN.{getD, take, drop}
+use lib.ListN.{length, getD, take, drop}
+use Rattle.std.proofs.shelf.Lists.{take-rest}
 use Rattle.model.specs.Tables.{all, same-place, unshared, Entry as ModelEntry}
 use Rattle.tables.specs.declared.types.Entry.{Entry}
 use Rattle.tables.specs.Views.{entry-view, entries-view}
-use Rattle.tables.proofs.Apart.{both-pass, first-fails, second-fails, tail}
+use Rattle.tables.proofs.Bools.{both-pass, first-fails, second-fails}
 use Rattle.tables.proofs.Scans.{passed, failed, ended}
 use Rattle.tables.proofs.types.Tables.items_are_apart.Needs as need
 use Rattle.tables.proofs.types.Tables.items_are_apart.Needs.{then-not-is-apart-from·by·then-not-is-apart-from as by-dirs, then-not-is-apart-from·by·else-not-is-apart-from·then-not-is-apart-from-2 as by-files}
+
+-- `&ds[i..]` of the 32
+tail : (ds : List Entry) (n i : ℕ) → length ds ≡ n → take (n - i) (drop i ds) ≡ drop i ds
+tail ds n i e = ap (λ m. take (m - i) (drop i ds)) (sym e) ∙ take-rest ds i
 
 abbrev apart : Entry → ModelEntry → Bool
 apart d f = not (same-place (entry-view d) f)

@@ -1,5 +1,5 @@
 use mathlib.Core.Path.{_≡_, sym, ap₂, _∙_}
-use mathlib.Core.Bool.{Bool, true, not}
+use mathlib.Core.Bool.{Bool, true}
 use mathlib.Core.List.{List}
 use Prim.Native.Nat.{ℕ, _<_}
 use native.Mathlib.Nat.{le-trans}
@@ -9,23 +9,24 @@ use lib.Dec.{eqb}
 use lib.ListN.{length, getD}
 use Rattle.std.proofs.shelf.Lists.{getD-map}
 use Rattle.std.proofs.shelf.Tests.{both-ways, eq-eqb, ne-eqb, not-false, not-true}
-use Rattle.model.specs.Tables.{Tables as Model, live-places, member, mark-of}
+use Rattle.model.specs.Tables.{Tables as Model, mark-of}
 use Rattle.tables.specs.declared.types.Mark.{Mark}
 use Rattle.tables.specs.declared.types.Tables.{Tables}
+use Rattle.tables.specs.Rules.{alive-by, Claimed, due}
 use Rattle.tables.specs.Views.{view}
-use Rattle.tables.proofs.Due.{due, due-is}
+use Rattle.tables.proofs.Due.{due-is}
 use Rattle.tables.proofs.Scans.{each-passed, each-failed}
 use Rattle.tables.proofs.types.Tables.marks_are_right.Needs as need
 
 -- the mark of s is the one that is due
 abbrev right : List Bool → Model → ℕ → Bool
-right dead t s = eqb (getD (t .marks) s 1) (mark-of (λ s. not (getD dead s true)) t s)
+right dead t s = eqb (getD (t .marks) s 1) (mark-of (alive-by dead) t s)
 
 -- the mark of s, as the code reads it
 abbrev held : Tables → ℕ → ℕ
 held t s = getD (t .marks) s (record { 0 = 0 }) .0
 
-compared : (dead claimed : List Bool) (t : Tables) → ((s : ℕ) → s < 256 → getD claimed s true ≡ member s (live-places (view t .files) (view t .rows))) → (s : ℕ) → s < length (t .marks) → (m : ℕ) → m ≡ due dead claimed s → right dead (view t) s ≡ eqb (held t s) m
+compared : (dead claimed : List Bool) (t : Tables) → Claimed (view t) claimed → (s : ℕ) → s < length (t .marks) → (m : ℕ) → m ≡ due dead claimed s → right dead (view t) s ≡ eqb (held t s) m
 compared dead claimed t tells s l m e = ap₂ eqb (getD-map (λ (m : Mark). m .0) (t .marks) s (record { 0 = 0 }) 1 l) (sym (e ∙ due-is dead claimed (view t) tells s))
 
 pub loop-sector-holds : need.loop-sector-holds
