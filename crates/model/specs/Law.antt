@@ -66,11 +66,12 @@ abbrev pub volume : Device → Volume
 volume (closed i) = opened i
 volume (standing v) = v
 
--- the data sectors that are not dead
+-- how many numbers from a, n of them, pass
 abbrev pub count : (ℕ → Bool) → ℕ → ℕ → ℕ
 count f a zero = 0
 count f a (suc n) = cond (f a) 1 0 + count f (suc a) n
 
+-- the count of data sectors that are not dead: all that the history is told of the store
 abbrev pub room : Image → ℕ
 room i = count (λ s. is-ok (look i s)) first-data data-count
 
@@ -84,9 +85,11 @@ finds v p x = find-answer v root p ≡ Ok x
 abbrev pub reached : Image → List Call → Volume
 reached i cs = volume (run (closed (formatted i)) cs)
 
+-- the tree that a volume holds
 abbrev pub tree-in : Volume → Tree
 tree-in v = elim (v .tables) [ None ↦ bare | Some t ↦ tree-of t (v .image) ]
 
+-- what holds of the volume v after format of the image i and the calls cs
 pub record Stands (i : Image) (cs : List Call) (v : Volume) : Type 0 where
   -- its own tables are let in, so it is not shut
   pub stays-open : is-some (v .tables) ≡ true
@@ -103,6 +106,7 @@ pub record Stands (i : Image) (cs : List Call) (v : Volume) : Type 0 where
   -- the map marks a data sector used exactly when a used place names it
   pub marks : (t : Tables) → v .tables ≡ Some t → (s : ℕ) → data-sector s ≡ true → (getD (t .marks) s 0 ≡ mark-used) ↔ ∥ ((f : ℕ) × (j : ℕ) × names-sector t f j s) ∥₁
 
+-- it holds after every list of calls
 abbrev pub Runs-stand : Type 0
 Runs-stand = (i : Image) → whole i ≡ true → format-refusal i ≡ None → (cs : List Call) → in-place false cs ≡ true → Stands i cs (reached i cs)
 
@@ -124,6 +128,7 @@ pub record Books (i : Image) (cs : List Call) (it : List ℕ) : Type 0 where
   pub accepted : book-answer (reached i cs) buffer ≡ Ok long
   pub given : it ≡ take long (book-buffer (reached i cs) buffer)
 
+-- two books are equal exactly when the two histories give the same tree
 abbrev pub Books-tell : Type 0
 Books-tell = (i j : Image) (cs ds : List Call) (x y : List ℕ) → Books i cs x → Books j ds y → (x ≡ y) ↔ Same (history (room i) bare cs) (history (room j) bare ds)
 
