@@ -38,7 +38,7 @@ fn read_sector<S: Store>(store: &mut S, sector: u16) -> Result<[u8; 512], Fault>
 }
 
 // The tables that the store holds, or the fault of the first table sector that cannot be read.
-pub fn load<S: Store>(store: &mut S) -> Result<Tables, Fault>
+pub(crate) fn load<S: Store>(store: &mut S) -> Result<Tables, Fault>
     ensures answer { λ r. ⌜ Cases r (λ t. tables-of (image (now (store .entry))) ≡ Ok (view t)) (λ f. tables-of (image (now (store .entry))) ≡ Err f) ⌝ }
     ensures image { λ _. ⌜ image (now (store .exit)) ≡ image (now (store .entry)) ⌝ }
 {
@@ -50,7 +50,7 @@ pub fn load<S: Store>(store: &mut S) -> Result<Tables, Fault>
 }
 
 // The tables of a store that is large enough to carry a volume, or the refusal: too small, or a dead table sector.
-pub fn load_checked<S: Store>(store: &mut S) -> Result<Tables, Refusal>
+pub(crate) fn load_checked<S: Store>(store: &mut S) -> Result<Tables, Refusal>
     ensures answer { λ r. ⌜ Cases r (λ t. (format-refusal (image (now (store .entry))) ≡ None) × (tables-of (image (now (store .entry))) ≡ Ok (view t))) (λ e. format-refusal (image (now (store .entry))) ≡ Some e) ⌝ }
     ensures image { λ _. ⌜ image (now (store .exit)) ≡ image (now (store .entry)) ⌝ }
 {
@@ -62,7 +62,7 @@ pub fn load_checked<S: Store>(store: &mut S) -> Result<Tables, Refusal>
 }
 
 // Which data sectors are dead: each is read once.
-pub fn dead_sectors<S: Store>(store: &mut S) -> [bool; 256]
+pub(crate) fn dead_sectors<S: Store>(store: &mut S) -> [bool; 256]
     ensures dead { λ r. ⌜ Tells r (image (now (store .entry))) ⌝ }
     ensures image { λ _. ⌜ image (now (store .exit)) ≡ image (now (store .entry)) ⌝ }
 {
