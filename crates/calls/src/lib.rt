@@ -1,4 +1,6 @@
 // Tables that are sound by their type, and each call worked out on them in memory: refused, or the tables after it.
+#![tactic(auto)]
+
 mod checks;
 pub mod consistent;
 pub mod finding;

@@ -28,8 +28,8 @@ fn owned(listed: Result<Option<Listed>, Refusal>) -> Result<Option<Item>, Refusa
 
 // A call on an open volume, but for `open` and `close`.
 pub(crate) fn work<S: Store>(volume: &mut Volume<S>, call: Call) -> Reply
-    ensures after { volume_view image volume.new ≡ worked (volume_view image volume.old) (call_view call) }
-    ensures reply { reply_view result ≡ worked_reply (volume_view image volume.old) (call_view call) }
+    ensures after { volume_view S.image volume.new ≡ worked (volume_view S.image volume.old) (call_view call) }
+    ensures reply { reply_view result ≡ worked_reply (volume_view S.image volume.old) (call_view call) }
 {
     match call {
         Call::Find(start, path) => Reply::Found(volume.find(start, path.as_slice())),

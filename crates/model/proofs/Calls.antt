@@ -11,7 +11,7 @@ use Rattle.std.proofs.Common.{◌≡◌, ℕ, ◌≤◌, true, List, length, get
 use Rattle.model.specs.Image.{Image, look, is_ok, Write, writes}
 use Rattle.model.specs.Refusals.{Call, closing, opening, find, mkdir, prune, unlink, read, write, move, next, book, picked}
 use Rattle.model.specs.Tables.{Tables}
-use Rattle.model.specs.History.{checks as tree-checks}
+use Rattle.model.specs.History.{checks as tree_checks}
 use Rattle.model.specs.Volume.{tree_of, checks, tables_after, sector_writes}
 use Rattle.model.specs.Sound.{Shaped, ProperRow, Sound}
 use Rattle.model.specs.Law.{formatted, whole, format_refusal, format_writes, room}
@@ -26,7 +26,7 @@ use Rattle.model.proofs.Calls.Formats.{loads, format_next}
 use Rattle.model.proofs.Calls.Makes.{mkdir_next, move-next}
 use Rattle.model.proofs.Calls.Writes.{write-next}
 
-pub refusals_agree : (i : Image) (t : Tables) → Ready i t → (c : Call) → picked (checks t i c) ≡ picked (tree-checks (room i) (tree_of t i) c)
+pub refusals_agree : (i : Image) (t : Tables) → Ready i t → (c : Call) → picked (checks t i c) ≡ picked (tree_checks (room i) (tree_of t i) c)
 refusals_agree i t r c = agree i t r.sectors r.shaped r.facts (room i) (room_agrees i t r.sectors r.shaped r.facts) c
 
 -- what an accepted call leaves

@@ -1,6 +1,6 @@
 -- What a store means: for each sector number below its size either 512 bytes or a dead sector.
 pub use Rattle.model.specs.declared.types.Cause.{Cause}
-pub use Rattle.model.specs.declared.types.Cause.TheVariants.{PastEnd as past_end, Dead as dead-sector}
+pub use Rattle.model.specs.declared.types.Cause.TheVariants.{PastEnd as past_end, Dead as dead_sector}
 pub use Rattle.model.specs.declared.types.Fault.{Fault}
 use Rattle.std.specs.Prelude.{ℕ, zero, suc, ◌+◌, min, Bool, true, false, cond, ◌&&◌, List, [], ◌∷◌, ◌++◌, length, Some, None, Ok, Err, Option, Result, ◌==◌, nat_le, nat_lt, slice_index_or, slice_set}
 use Rattle.model.specs.Sizes.{sector_size, most_sectors, deepest}
@@ -38,7 +38,7 @@ past_end_at s = record { cause = past_end; place = s; depth = 0 }
 
 -- the sector is dead: its place in the bottom store, and its depth
 abbrev pub dead_at : ℕ → ℕ → Fault
-dead_at p d = record { cause = dead-sector; place = p; depth = d }
+dead_at p d = record { cause = dead_sector; place = p; depth = d }
 
 -- reading and writing ---------------------------------------------------------------------------------
 

@@ -11,7 +11,7 @@ use Rattle.model.specs.History.{history, checks}
 use Rattle.model.specs.Sound.{NamesSector, Shaped}
 use Rattle.model.specs.Answers.{turned_away, find_answer, book_answer, book_buffer}
 pub use Rattle.model.specs.Volume.{blank_mark, format_writes, format_refusal, formatted}
-use Rattle.model.specs.Volume.{Volume, opened, named, after, refusal, tree_of, row, Kept, checks as table-checks, tables_after}
+use Rattle.model.specs.Volume.{Volume, opened, named, after, refusal, tree_of, row, Kept, checks as table_checks, tables_after}
 
 -- a store with no volume on it, or an open volume
 pub data Device : Type 0 where
@@ -127,4 +127,4 @@ pub record TablesStay : Type 0 where
   pub from_sound : (i : Image) (t : Tables) → Shaped t → sound i t ≡ true → consistent t ≡ true
   -- on a store whose dead data sectors are those that the map marks
   pub to_sound : (i : Image) (t : Tables) → Shaped t → consistent t ≡ true → ((s : ℕ) → data_sector s ≡ true → alive i s ≡ told_alive t s) → sound i t ≡ true
-  pub after_call : (i : Image) (t : Tables) (c : Call) → Shaped t → consistent t ≡ true → picked (table-checks t i c) ≡ None → Shaped (tables_after t c) × (consistent (tables_after t c) ≡ true)
+  pub after_call : (i : Image) (t : Tables) (c : Call) → Shaped t → consistent t ≡ true → picked (table_checks t i c) ≡ None → Shaped (tables_after t c) × (consistent (tables_after t c) ≡ true)

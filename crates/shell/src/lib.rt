@@ -1,1 +1,3 @@
 // The console's command language.
+#![tactic(auto)]
+

@@ -1,4 +1,6 @@
 // Stores of 512-byte sectors: what every store means, three bottom stores and two layers over any store.
+#![tactic(auto)]
+
 ghost use Rattle.std.specs.Prelude.{◌≡◌, true, length};
 ghost use Rattle.model.specs.Image.{Image, whole, access, filled, put};
 

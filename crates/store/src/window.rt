@@ -22,7 +22,7 @@ pub struct Window<S> {
 impl<S: Store> Window<S> {
     // Whether the store below has every sector of the window.
     pub fn fits(below: &S, first: u16, count: u16) -> Result<(), Refusal>
-        ensures { result ≡ fit_answer (window_fits (image below.now) first count) }
+        ensures { result ≡ fit_answer (window_fits (S.image below.now) first count) }
     {
         if u32::from(first) + u32::from(count) <= u32::from(below.size()) {
             Ok(())
@@ -34,7 +34,7 @@ impl<S: Store> Window<S> {
     // Takes the store below. A window that does not fit has no sector.
     pub fn lay(below: S, first: u16, count: u16) -> Window<S>
         ensures below { result.below ≡ below }
-        ensures image { window_over image result ≡ window_image (image below) first count }
+        ensures image { window_over S.image result ≡ window_image (S.image below) first count }
     {
         Window {
             below,
@@ -46,7 +46,7 @@ impl<S: Store> Window<S> {
     // Hands the store below back.
     pub fn into_below(self) -> S
         ensures below { result ≡ self.below }
-        ensures image { window_over image self ≡ window_image (image result) self.first self.count }
+        ensures image { window_over S.image self ≡ window_image (S.image result) self.first self.count }
     {
         let Window { below, .. } = self;
         below
@@ -54,7 +54,7 @@ impl<S: Store> Window<S> {
 
     // The sector below that a sector of the window is.
     fn place(&self, sector: u16) -> Result<u16, Fault>
-        ensures { Led (λ below. window_image below self.now.first self.now.count) (image self.now.below) sector result }
+        ensures { Led (λ below. window_image below self.now.first self.now.count) (S.image self.now.below) sector result }
     {
         if sector < self.size() {
             Ok(self.first + sector)
@@ -65,12 +65,12 @@ impl<S: Store> Window<S> {
 }
 
 impl<S: Store> Store for Window<S> {
-    ghost image = { window_over S.Store.image };
+    ghost image = { window_over S.image };
 
     ghost wholeness = { λ w.
         let a = w.first in
         let n = w.count in
-        layer-whole (windows.fits a n) n (windows.serve a n) (windows.sound a n) (S.Store.image w.below) (S.Store.wholeness w.below) };
+        layer-whole (windows.fits a n) n (windows.serve a n) (windows.sound a n) (S.Store.image w.below) (S.wholeness w.below) };
 
     fn size(&self) -> u16 {
         match Window::fits(&self.below, self.first, self.count) {

@@ -1,4 +1,5 @@
 // The tour of the file system, step by step, printed in plain words. It grows with the layers below it.
+#![tactic(auto)]
 
 mod stores;
 mod volumes;

@@ -1,6 +1,6 @@
 -- The sectors of a row, claimed one after another.
 use Rattle.std.proofs.Common.{◌≡◌, ℕ, ◌+◌, ◌<◌, ◌≤◌, Bool, true, false, not, ◌&&◌, ◌||◌, eqb, leb, ◌⊎◌, List, [], ◌∷◌, ◌++◌, length, get_or, drop, set, sym, refl, ap, ◌∙◌, ap₂, inl, inr, arith}
-use mathlib.Core.Bool.{and_assoc, and_false}
+use mathlib.Core.Bool.{and_assoc, and-false}
 use Rattle.std.proofs.lemmas.List.{drop_more, get_or_past, get_or-set_other, get_or-set_same, length-set}
 use Rattle.std.proofs.lemmas.Bool.{cases_eq, cases_lt, eq-eqb, eqb-true, ne_eqb}
 use Rattle.model.specs.Sizes.{blank}
@@ -23,7 +23,7 @@ all_apart s c (x ∷ xs) = ap (λ b. not (eqb x s || c x) && b) (all_apart s c x
 
 shift : (m d c a : Bool) → ((not m && d) && (not c && a)) ≡ (not c && (d && (not m && a)))
 shift true d true a = refl
-shift true d false a = sym (and_false d)
+shift true d false a = sym (and-false d)
 shift false true true a = refl
 shift false true false a = refl
 shift false false true a = refl

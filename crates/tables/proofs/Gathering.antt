@@ -1,6 +1,6 @@
 -- The sectors that the rows of live files claim, file after file.
 use Rattle.std.proofs.Common.{◌≡◌, ℕ, ◌+◌, ◌<◌, ◌≤◌, Bool, true, false, cond, not, ◌&&◌, ◌||◌, eqb, leb, List, [], ◌∷◌, ◌++◌, length, get_or, drop, replicate, sym, refl, ap, ◌∙◌, ap₂, arith}
-use mathlib.Core.Bool.{and_true, or-false}
+use mathlib.Core.Bool.{and-true, or-false}
 use Rattle.std.proofs.lemmas.List.{at_drop_all, drop_more, get_or-replicate, length-replicate}
 use Rattle.std.proofs.lemmas.Bool.{and_parts}
 use Rattle.model.specs.Sizes.{blank}
@@ -50,7 +50,7 @@ left_start lives c es rs none = go (proper_rows lives es rs) refl
     open_to s e = ap not (none s (and_parts (data_sector s) (lives s) e).0)
 
     go : (b : Bool) → proper_rows lives es rs ≡ b → (b && unclaimed c (live_places es rs)) ≡ (b && distinct (live_places es rs))
-    go true e = ap (λ a. distinct (live_places es rs) && a) (all_weaker (λ s. data_sector s && lives s) (λ s. not (c s)) open_to (live_places es rs) (places_data lives es rs e)) ∙ and_true (distinct (live_places es rs))
+    go true e = ap (λ a. distinct (live_places es rs) && a) (all_weaker (λ s. data_sector s && lives s) (λ s. not (c s)) open_to (live_places es rs) (places_data lives es rs e)) ∙ and-true (distinct (live_places es rs))
     go false e = refl
 
 -- the rows of i files have claimed their sectors: what is left gives the answer, and adds what is still to be claimed

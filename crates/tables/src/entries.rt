@@ -1,6 +1,6 @@
 // An entry as its sixteen bytes: one for the parent, then fifteen for the name.
 ghost use Rattle.std.specs.Prelude.{◌≡◌, ◌≤◌, not, length, take};
-ghost use Rattle.model.specs.Names.{padded as padded-name};
+ghost use Rattle.model.specs.Names.{padded as padded_name};
 ghost use Rattle.model.specs.Tables.{entry, entries, entries_bytes, live};
 ghost use Rattle.tables.specs.Views.{entry_view, entries_view};
 
@@ -17,8 +17,8 @@ impl Entry {
 
     // An entry of a name, which is filled up with 0x00. Past fifteen bytes a name is cut off.
     pub fn new(parent: u8, name: &[u8]) -> Entry
-        ensures value { (result.parent ≡ parent) × (result.name ≡ take 15 (padded-name name.now)) }
-        ensures fits { length name.now ≤ 15 → result.name ≡ padded-name name.now }
+        ensures value { (result.parent ≡ parent) × (result.name ≡ take 15 (padded_name name.now)) }
+        ensures fits { length name.now ≤ 15 → result.name ≡ padded_name name.now }
     {
         let name = padded(name);
         Entry { parent, name }

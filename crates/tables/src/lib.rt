@@ -1,4 +1,6 @@
 // The four tables of a volume: how they lie in sectors, when they are sound, and how items are found in them.
+#![tactic(auto)]
+
 pub mod changes;
 pub mod claims;
 pub mod consistent;

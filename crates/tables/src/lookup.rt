@@ -3,7 +3,7 @@ ghost use Rattle.std.specs.Prelude.{◌≡◌, ◌<◌, length, IfSome, Some, No
 ghost use Rattle.model.specs.Book.{last};
 ghost use Rattle.model.specs.Names.{names, same_name};
 ghost use Rattle.model.specs.Tables.{live_dir};
-ghost use Rattle.model.specs.Volume.{child as child-of, holder as holder-of, item_in, named, starts};
+ghost use Rattle.model.specs.Volume.{child as child_of, holder as holder_of, item_in, named, starts};
 ghost use Rattle.tables.specs.Views.{entries_view, view};
 
 use crate::names::padded;
@@ -21,7 +21,7 @@ fn is_named(entry: &Entry, wanted: &[u8; NAME]) -> bool
 
 // The number of the entry with this parent and this name.
 pub fn child(entries: &[Entry; ENTRIES], parent: u8, name: &[u8]) -> Option<u8>
-    ensures value { result ≡ child-of (entries_view entries.now) parent name.now }
+    ensures value { result ≡ child_of (entries_view entries.now) parent name.now }
     ensures bound { IfSome result (λ i. i < 32) }
 {
     if name.len() > NAME {
@@ -56,7 +56,7 @@ impl Tables {
 
     // The directory that is to hold the last name of a path, and that name.
     pub fn place<'a>(&self, start: u8, path: &'a [u8]) -> Option<(u8, &'a [u8])>
-        ensures { MatchOption result (holder-of (view self.now) start (names path.now) ≡ None) (λ x. (holder-of (view self.now) start (names path.now) ≡ Some x.0) × (x.1.now ≡ last (names path.now))) }
+        ensures { MatchOption result (holder_of (view self.now) start (names path.now) ≡ None) (λ x. (holder_of (view self.now) start (names path.now) ≡ Some x.0) × (x.1.now ≡ last (names path.now))) }
     {
         let mut dir = start;
         let mut rest = path;
@@ -69,7 +69,7 @@ impl Tables {
 
     // The directory that is to hold the last name of a path.
     pub fn holder(&self, start: u8, path: &[u8]) -> Option<u8>
-        ensures { result ≡ holder-of (view self.now) start (names path.now) }
+        ensures { result ≡ holder_of (view self.now) start (names path.now) }
     {
         let (dir, _) = self.place(start, path)?;
         Some(dir)

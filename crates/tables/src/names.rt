@@ -1,6 +1,6 @@
 // Names: which bytes are one, and which of two comes first.
 ghost use Rattle.std.specs.Prelude.{◌≡◌, ◌≤◌, length, take};
-ghost use Rattle.model.specs.Names.{proper_byte, proper_name, before, padded as padded-name};
+ghost use Rattle.model.specs.Names.{proper_byte, proper_name, before, padded as padded_name};
 ghost use Rattle.model.specs.Tables.{trimmed, well_named};
 ghost use Rattle.tables.specs.Views.{entry_view};
 
@@ -43,8 +43,8 @@ pub fn precedes(a: &[u8], b: &[u8]) -> bool
 
 // A name as an entry holds it: filled up with 0x00. Past fifteen bytes a name is cut off.
 pub(crate) fn padded(name: &[u8]) -> [u8; NAME]
-    ensures value { result ≡ take 15 (padded-name name.now) }
-    ensures fits { length name.now ≤ 15 → result ≡ padded-name name.now }
+    ensures value { result ≡ take 15 (padded_name name.now) }
+    ensures fits { length name.now ≤ 15 → result ≡ padded_name name.now }
 {
     let mut bytes = [0; NAME];
     let long = name.len().min(NAME);

@@ -2,7 +2,7 @@
 ghost use Rattle.std.specs.Prelude.{◌≡◌, ◌<◌, length, IfSome, nat_eq};
 ghost use Rattle.model.specs.Book.{last};
 ghost use Rattle.model.specs.Names.{names, spelt, spelt_or_empty, within};
-ghost use Rattle.model.specs.Sizes.{slash as slash-byte};
+ghost use Rattle.model.specs.Sizes.{slash as slash_byte};
 ghost use Rattle.model.specs.Tree.{first};
 
 use crate::names::is_proper_byte;
@@ -10,7 +10,7 @@ use crate::sizes::{NAME, SLASH};
 
 // Where the first slash stands.
 pub fn slash(path: &[u8]) -> Option<usize>
-    ensures value { result ≡ first (λ b. nat_eq b slash-byte) path.now }
+    ensures value { result ≡ first (λ b. nat_eq b slash_byte) path.now }
     ensures bound { IfSome result (λ i. i < length path.now) }
 {
     for (i, b) in path.iter().enumerate() {

@@ -12,7 +12,7 @@ pub trait Slot {
 
 // The lowest free slot.
 pub fn first_free<T: Slot>(slots: &[T]) -> Option<usize>
-    ensures value { result ≡ first vacant slots.now }
+    ensures value { result ≡ first T.vacant slots.now }
     ensures bound { IfSome result (λ i. i < length slots.now) }
 {
     for (i, slot) in slots.iter().enumerate() {

@@ -8,7 +8,7 @@ use Rattle.model.specs.Tables.{Tables, load}
 use Rattle.model.specs.Volume.{Volume, checks, tables_after, sector_writes, settled, done, after, Kept, InStep}
 use Rattle.model.specs.declared.types.Fault.{Fault}
 use Rattle.model.specs.declared.types.Refusal.{Refusal}
-use Rattle.model.specs.declared.types.Refusal.TheVariants.{Dead as dead-table, Shut as shut}
+use Rattle.model.specs.declared.types.Refusal.TheVariants.{Dead as dead_table, Shut as shut}
 use Rattle.model.proofs.Calls.{stays_ready}
 use Rattle.model.proofs.Meaning.{load_shaped}
 use Rattle.model.proofs.Ready.{Ready}

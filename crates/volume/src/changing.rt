@@ -17,7 +17,7 @@ use store::Store;
 impl<S: Store> Volume<S> {
     // Writes these of the new tables, in their order, keeps the new tables, and hands on what the call answers.
     fn commit<T: Drop>(&mut self, next: Consistent, parts: &[Part], answer: T) -> Result<T, Refusal>
-        ensures { Commits (volume_view image self.old) (view next.tables) (map (part_write (view next.tables)) parts.now) answer result (volume_view image self.new) }
+        ensures { Commits (volume_view S.image self.old) (view next.tables) (map (part_write (view next.tables)) parts.now) answer result (volume_view S.image self.new) }
     {
         write_parts(&mut self.store, next.tables(), parts)?;
         self.tables = Some(next);
@@ -26,7 +26,7 @@ impl<S: Store> Volume<S> {
 
     // A directory in the lowest free entry; answers its number.
     pub fn mkdir(&mut self, start: u8, path: &[u8]) -> Result<u8, Refusal>
-        ensures { Acts (volume_view image self.old) (mkdir start path.now) (mkdir_answer (volume_view image self.old) start path.now) result (volume_view image self.new) }
+        ensures { Acts (volume_view S.image self.old) (mkdir start path.now) (mkdir_answer (volume_view S.image self.old) start path.now) result (volume_view S.image self.new) }
     {
         let Some(kept) = &self.tables else {
             return Err(Refusal::Shut);
@@ -37,7 +37,7 @@ impl<S: Store> Volume<S> {
 
     // A file taken away: the first byte of its name and its marks become 0x00, and nothing else changes.
     pub fn unlink(&mut self, start: u8, path: &[u8]) -> Result<(), Refusal>
-        ensures { Acts (volume_view image self.old) (unlink start path.now) (done_answer (volume_view image self.old) (unlink start path.now)) result (volume_view image self.new) }
+        ensures { Acts (volume_view S.image self.old) (unlink start path.now) (done_answer (volume_view S.image self.old) (unlink start path.now)) result (volume_view S.image self.new) }
     {
         let Some(kept) = &self.tables else {
             return Err(Refusal::Shut);
@@ -48,7 +48,7 @@ impl<S: Store> Volume<S> {
 
     // A directory taken away with everything beneath it, files included.
     pub fn prune(&mut self, start: u8, path: &[u8]) -> Result<(), Refusal>
-        ensures { Acts (volume_view image self.old) (prune start path.now) (done_answer (volume_view image self.old) (prune start path.now)) result (volume_view image self.new) }
+        ensures { Acts (volume_view S.image self.old) (prune start path.now) (done_answer (volume_view S.image self.old) (prune start path.now)) result (volume_view S.image self.new) }
     {
         let Some(kept) = &self.tables else {
             return Err(Refusal::Shut);
@@ -59,7 +59,7 @@ impl<S: Store> Volume<S> {
 
     // Moves an item to another path, which goes from the same start: its one entry is rewritten.
     pub fn rename(&mut self, start: u8, from: &[u8], to: &[u8]) -> Result<(), Refusal>
-        ensures { Acts (volume_view image self.old) (move start from.now to.now) (done_answer (volume_view image self.old) (move start from.now to.now)) result (volume_view image self.new) }
+        ensures { Acts (volume_view S.image self.old) (move start from.now to.now) (done_answer (volume_view S.image self.old) (move start from.now to.now)) result (volume_view S.image self.new) }
     {
         let Some(kept) = &self.tables else {
             return Err(Refusal::Shut);
@@ -70,7 +70,7 @@ impl<S: Store> Volume<S> {
 
     // A file of 1 to 16 whole sectors in the lowest free entry and the lowest free sectors; answers its number.
     pub fn write(&mut self, start: u8, path: &[u8], contents: &[u8]) -> Result<u8, Refusal>
-        ensures { Acts (volume_view image self.old) (write start path.now contents.now) (write_answer (volume_view image self.old) start path.now contents.now) result (volume_view image self.new) }
+        ensures { Acts (volume_view S.image self.old) (write start path.now contents.now) (write_answer (volume_view S.image self.old) start path.now contents.now) result (volume_view S.image self.new) }
     {
         let Some(kept) = &self.tables else {
             return Err(Refusal::Shut);

@@ -15,9 +15,9 @@ const BLANK: [u8; 512] = [0; 512];
 
 // Makes an empty volume: the map with nothing used, and three tables of 0x00. Refused, it leaves the store.
 pub fn format<S: Store>(store: &mut S) -> Result<(), Refusal>
-    ensures answer { result ≡ format_answer (image store.old) }
-    ensures image { image store.new ≡ after_format (image store.old) }
-    ensures bare { result ≡ Ok tt → Bare (image store.new) }
+    ensures answer { result ≡ format_answer (S.image store.old) }
+    ensures image { S.image store.new ≡ after_format (S.image store.old) }
+    ensures bare { result ≡ Ok tt → Bare (S.image store.new) }
 {
     load_checked(store)?;
     let map = blank_map(&dead_sectors(store));

@@ -1,4 +1,6 @@
 // A volume: a tree of files and directories on a store.
+#![tactic(auto)]
+
 pub mod changing;
 pub mod format;
 pub mod opening;

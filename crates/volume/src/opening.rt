@@ -2,7 +2,7 @@
 ghost use Rattle.std.specs.Prelude.{◌≡◌, true, not, ◌↔◌, Some, None, Ok, MatchResult};
 ghost use Rattle.model.specs.Answers.{inspect_answer};
 ghost use Rattle.model.specs.Meaning.{Carries};
-ghost use Rattle.model.specs.Tables.{load as tables-of};
+ghost use Rattle.model.specs.Tables.{load as tables_of};
 ghost use Rattle.model.specs.Tree.{is_some};
 ghost use Rattle.model.specs.Volume.{inspection, opened, Kept};
 ghost use Rattle.tables.specs.Views.{view};
@@ -16,8 +16,8 @@ use tables::consistent::Consistent;
 
 // The tables of a store that carries a sound volume, or why it does not. Each sector is read once.
 fn admitted<S: Store>(store: &mut S) -> Result<Consistent, Refusal>
-    ensures answer { MatchResult result (λ c. (inspection (image store.old) ≡ None) × (tables-of (image store.old) ≡ Ok (view c.tables))) (λ e. inspection (image store.old) ≡ Some e) }
-    ensures image { image store.new ≡ image store.old }
+    ensures answer { MatchResult result (λ c. (inspection (S.image store.old) ≡ None) × (tables_of (S.image store.old) ≡ Ok (view c.tables))) (λ e. inspection (S.image store.old) ≡ Some e) }
+    ensures image { S.image store.new ≡ S.image store.old }
 {
     let tables = load_checked(store)?;
     let dead = dead_sectors(store);
@@ -29,9 +29,9 @@ fn admitted<S: Store>(store: &mut S) -> Result<Consistent, Refusal>
 
 // Whether a volume on this store would be let in: nothing, or the refusal. The store stays as it is.
 pub fn inspect<S: Store>(store: &mut S) -> Result<(), Refusal>
-    ensures answer { result ≡ inspect_answer (image store.old) }
-    ensures exactly { (result ≡ Ok tt) ↔ Carries (image store.old) }
-    ensures image { image store.new ≡ image store.old }
+    ensures answer { result ≡ inspect_answer (S.image store.old) }
+    ensures exactly { (result ≡ Ok tt) ↔ Carries (S.image store.old) }
+    ensures image { S.image store.new ≡ S.image store.old }
 {
     admitted(store)?;
     Ok(())
@@ -40,9 +40,9 @@ pub fn inspect<S: Store>(store: &mut S) -> Result<(), Refusal>
 impl<S: Store> Volume<S> {
     // Never refuses: over a store that `inspect` refuses the volume is shut.
     pub fn open(mut store: S) -> Volume<S>
-        ensures opened { volume_view image result ≡ opened (image store) }
-        ensures exactly { (is_some (volume_view image result).tables ≡ true) ↔ Carries (image store) }
-        ensures kept { Kept (volume_view image result) }
+        ensures opened { volume_view S.image result ≡ opened (S.image store) }
+        ensures exactly { (is_some (volume_view S.image result).tables ≡ true) ↔ Carries (S.image store) }
+        ensures kept { Kept (volume_view S.image result) }
     {
         let tables = match admitted(&mut store) {
             Ok(kept) => Some(kept),
@@ -61,14 +61,14 @@ impl<S: Store> Volume<S> {
 
     // Whether every call is refused, since the store carries no sound volume.
     pub fn is_shut(&self) -> bool
-        ensures { result ≡ not (is_some (volume_view image self.now).tables) }
+        ensures { result ≡ not (is_some (volume_view S.image self.now).tables) }
     {
         self.tables.is_none()
     }
 
     // The allocation map, a byte for each sector number: 0x00 free, 0xFF used or reserved, 0xFE dead.
     pub fn map(&self) -> Result<[u8; 512], Refusal>
-        ensures { result ≡ map_answer (volume_view image self.now) }
+        ensures { result ≡ map_answer (volume_view S.image self.now) }
     {
         let Some(kept) = &self.tables else {
             return Err(Refusal::Shut);

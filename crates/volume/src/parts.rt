@@ -34,8 +34,8 @@ impl Part {
 
     // Writes this table to its sector.
     fn write<S: Store>(self, tables: &Tables, store: &mut S) -> Result<(), Fault>
-        ensures answer { result ≡ access (image store.old) (part_write (view tables.now) self).at }
-        ensures image { image store.new ≡ put (image store.old) (part_write (view tables.now) self).at (part_write (view tables.now) self).new }
+        ensures answer { result ≡ access (S.image store.old) (part_write (view tables.now) self).at }
+        ensures image { S.image store.new ≡ put (S.image store.old) (part_write (view tables.now) self).at (part_write (view tables.now) self).new }
     {
         match self {
             Part::Map => store.write(MAP, &tables.map_sector()),
@@ -52,7 +52,7 @@ pub(crate) fn write_parts<S: Store>(
     tables: &Tables,
     parts: &[Part],
 ) -> Result<(), Refusal>
-    ensures { Wrote (image store.old) (map (part_write (view tables.now)) parts.now) result (image store.new) }
+    ensures { Wrote (S.image store.old) (map (part_write (view tables.now)) parts.now) result (S.image store.new) }
 {
     for part in parts {
         part.write(tables, store)?;
@@ -63,7 +63,7 @@ pub(crate) fn write_parts<S: Store>(
 // Writes the contents to the sectors that the row names, in their order.
 pub(crate) fn write_data<S: Store>(store: &mut S, row: &Row, contents: &[u8]) -> Result<(), Refusal>
     requires { length contents.now ≡ 512 * length (used row.now.places) }
-    ensures { Wrote (image store.old) (data_writes (used row.now.places) contents.now) result (image store.new) }
+    ensures { Wrote (S.image store.old) (data_writes (used row.now.places) contents.now) result (S.image store.new) }
 {
     let mut rest = contents;
     for k in 0..row.count() {

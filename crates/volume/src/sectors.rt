@@ -1,7 +1,7 @@
 // What is read of a store: its four table sectors, which data sectors are dead, and a file's sectors.
 ghost use Rattle.std.specs.Prelude.{◌≡◌, ◌*◌, ◌≤◌, Bool, true, false, cond, not, length, Some, None, Ok, Err, MatchResult};
 ghost use Rattle.model.specs.Image.{look};
-ghost use Rattle.model.specs.Tables.{load as tables-of, used};
+ghost use Rattle.model.specs.Tables.{load as tables_of, used};
 ghost use Rattle.model.specs.Volume.{format_refusal};
 ghost use Rattle.tables.specs.Views.{view};
 ghost use Rattle.volume.specs.Blank.{Tells};
@@ -24,8 +24,8 @@ pub const ROWS: u16 = 0x103;
 pub const LEAST_SECTORS: u16 = 260;
 
 fn read_sector<S: Store>(store: &mut S, sector: u16) -> Result<[u8; 512], Fault>
-    ensures answer { result ≡ look (image store.old) sector }
-    ensures image { image store.new ≡ image store.old }
+    ensures answer { result ≡ look (S.image store.old) sector }
+    ensures image { S.image store.new ≡ S.image store.old }
 {
     let mut buffer = [0; 512];
     store.read(sector, &mut buffer)?;
@@ -35,8 +35,8 @@ fn read_sector<S: Store>(store: &mut S, sector: u16) -> Result<[u8; 512], Fault>
 // Reads the sectors that the row names, one after another, to the front of the buffer.
 pub(crate) fn read_row<S: Store>(store: &mut S, row: &Row, buffer: &mut [u8]) -> Result<(), Refusal>
     requires { 512 * length (used row.now.places) ≤ length buffer.old }
-    ensures filled { Filled (image store.old) (used row.now.places) buffer.old result buffer.new }
-    ensures image { image store.new ≡ image store.old }
+    ensures filled { Filled (S.image store.old) (used row.now.places) buffer.old result buffer.new }
+    ensures image { S.image store.new ≡ S.image store.old }
 {
     for k in 0..row.count() {
         let sector = read_sector(store, u16::from(row.places[k]))?;
@@ -48,8 +48,8 @@ pub(crate) fn read_row<S: Store>(store: &mut S, row: &Row, buffer: &mut [u8]) ->
 
 // The tables that the store holds, or the fault of the first table sector that cannot be read.
 pub(crate) fn load<S: Store>(store: &mut S) -> Result<Tables, Fault>
-    ensures answer { MatchResult result (λ t. tables-of (image store.old) ≡ Ok (view t)) (λ f. tables-of (image store.old) ≡ Err f) }
-    ensures image { image store.new ≡ image store.old }
+    ensures answer { MatchResult result (λ t. tables_of (S.image store.old) ≡ Ok (view t)) (λ f. tables_of (S.image store.old) ≡ Err f) }
+    ensures image { S.image store.new ≡ S.image store.old }
 {
     let map = read_sector(store, MAP)?;
     let dirs = read_sector(store, DIRS)?;
@@ -60,8 +60,8 @@ pub(crate) fn load<S: Store>(store: &mut S) -> Result<Tables, Fault>
 
 // The tables of a store that is large enough to carry a volume, or the refusal: too small, or a dead table sector.
 pub(crate) fn load_checked<S: Store>(store: &mut S) -> Result<Tables, Refusal>
-    ensures answer { MatchResult result (λ t. (format_refusal (image store.old) ≡ None) × (tables-of (image store.old) ≡ Ok (view t))) (λ e. format_refusal (image store.old) ≡ Some e) }
-    ensures image { image store.new ≡ image store.old }
+    ensures answer { MatchResult result (λ t. (format_refusal (S.image store.old) ≡ None) × (tables_of (S.image store.old) ≡ Ok (view t))) (λ e. format_refusal (S.image store.old) ≡ Some e) }
+    ensures image { S.image store.new ≡ S.image store.old }
 {
     if store.size() < LEAST_SECTORS {
         return Err(Refusal::Small);
@@ -72,8 +72,8 @@ pub(crate) fn load_checked<S: Store>(store: &mut S) -> Result<Tables, Refusal>
 
 // Which data sectors are dead: each is read once.
 pub(crate) fn dead_sectors<S: Store>(store: &mut S) -> [bool; 256]
-    ensures dead { Tells result (image store.old) }
-    ensures image { image store.new ≡ image store.old }
+    ensures dead { Tells result (S.image store.old) }
+    ensures image { S.image store.new ≡ S.image store.old }
 {
     let mut dead = [false; 256];
     let mut buffer = [0; 512];

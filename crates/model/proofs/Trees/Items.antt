@@ -5,9 +5,9 @@ use Rattle.std.proofs.lemmas.Bool.{and_from, and_parts, both_ways, cases_lt, eq-
 use Rattle.model.specs.Image.{Image}
 use Rattle.model.specs.Names.{names, Name, Path, same_name, same_path, proper_name, all_names, padded}
 use Rattle.model.specs.Tables.{root, Entry, Tables, no_entry, live, trimmed, used, live_dir}
-use Rattle.model.specs.Tree.{Item, holds, Tree, is_some, stands_at, number_at, unused, is_dir as tree-dir, path_of, start_path, way}
+use Rattle.model.specs.Tree.{Item, holds, Tree, is_some, stands_at, number_at, unused, is_dir as tree_dir, path_of, start_path, way}
 use Rattle.model.specs.Book.{parent, last}
-use Rattle.model.specs.History.{whole as whole-path, below}
+use Rattle.model.specs.History.{whole as whole_path, below}
 use Rattle.model.specs.Volume.{is_child, child, walk, holder, climb, item_path, body, dir_items, file_items, tree_of, starts, free_entry}
 use Rattle.model.specs.Sound.{Shaped, Live, Proper, Sound}
 use Rattle.model.proofs.Common.Searches.{first_none, first_alike}
@@ -56,7 +56,7 @@ path-used : (b : Bool) (x : Item) → is_some (path_of (cond b (Some x) None)) �
 path-used true x = refl
 path-used false x = refl
 
-pub push_dir : (t : Tree) (b : Path) (n : Name) → tree-dir t (b ++ n ∷ []) ≡ holds t.dirs (b ++ n ∷ [])
+pub push_dir : (t : Tree) (b : Path) (n : Name) → tree_dir t (b ++ n ∷ []) ≡ holds t.dirs (b ++ n ∷ [])
 push_dir t [] n = refl
 push_dir t (m ∷ b) n = refl
 
@@ -130,7 +130,7 @@ module _ (i : Image) (t : Tables) (shaped : Shaped t) (s : Sound i t) where
       go true k h = let e = eqb-true d root k in (inl e, rw e)
       go false k h = let l = live_dir-live t.dirs d h in (inr l, ap (λ b. cond b (Some []) (path_of (get_or (dir_items t.dirs t.dirs) d None))) k ∙ alive l)
 
-  pub from_start : (d : ℕ) (p : List ℕ) → starts t d ≡ true → Place t.dirs d × (whole-path (tree_of t i) d p ≡ climb t.dirs 32 d ++ names p)
+  pub from_start : (d : ℕ) (p : List ℕ) → starts t d ≡ true → Place t.dirs d × (whole_path (tree_of t i) d p ≡ climb t.dirs 32 d ++ names p)
   from_start d p h = let a = start_names d h in (a.0, ap (λ o. below o (names p)) a.1)
 
   pub way-walk : (ns : Path) (d : ℕ) → all_names ns ≡ true → Place t.dirs d → way (tree_of t i) (climb t.dirs 32 d) ns ≡ is_some (holder t d ns)
@@ -150,9 +150,9 @@ module _ (i : Image) (t : Tables) (shaped : Shaped t) (s : Sound i t) where
   file_at n ns d e a p k = ap (number_at (tree_of t i).files) (sym (holder-path i t shaped s n ns d e a p k)) ∙ file_number e (last (n ∷ ns)) (walk_facts i t shaped s (parent (n ∷ ns)) d e (parent-names (n ∷ ns) a) p k).0 (last_name n ns a)
 
   -- a live directory stands in the tree
-  live-held : (d : ℕ) → Live t.dirs d → tree-dir (tree_of t i) (climb t.dirs 32 d) ≡ true
+  live-held : (d : ℕ) → Live t.dirs d → tree_dir (tree_of t i) (climb t.dirs 32 d) ≡ true
   live-held d l =
-      ap (tree-dir (tree_of t i)) (climb-live i t s d l)
+      ap (tree_dir (tree_of t i)) (climb-live i t s d l)
       ∙ push_dir (tree_of t i) (climb t.dirs 32 (get_or t.dirs d no_entry).parent) (trimmed (get_or t.dirs d no_entry).name)
       ∙ ap is_some (dir_number (get_or t.dirs d no_entry).parent (trimmed (get_or t.dirs d no_entry).name) (s.dirs_proper d l).held (s.dirs_proper d l).named)
       ∙ go (child t.dirs (get_or t.dirs d no_entry).parent (trimmed (get_or t.dirs d no_entry).name)) refl
@@ -164,6 +164,6 @@ module _ (i : Image) (t : Tables) (shaped : Shaped t) (s : Sound i t) where
       go (Some e) k = refl
       go None k = absurd (both_ways (is_child (get_or t.dirs d no_entry).parent (trimmed (get_or t.dirs d no_entry).name) (get_or t.dirs d no_entry)) (first_none (is_child (get_or t.dirs d no_entry).parent (trimmed (get_or t.dirs d no_entry).name)) no_entry t.dirs k d (let a = l.0 in let b = shaped.dirs_many in omega arith)) itself)
 
-  pub place-held : (d : ℕ) → Place t.dirs d → tree-dir (tree_of t i) (climb t.dirs 32 d) ≡ true
-  place-held d (inl e) = ap (λ x. tree-dir (tree_of t i) (climb t.dirs 32 x)) e
+  pub place-held : (d : ℕ) → Place t.dirs d → tree_dir (tree_of t i) (climb t.dirs 32 d) ≡ true
+  place-held d (inl e) = ap (λ x. tree_dir (tree_of t i) (climb t.dirs 32 x)) e
   place-held d (inr l) = live-held d l

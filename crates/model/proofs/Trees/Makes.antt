@@ -7,7 +7,7 @@ use Rattle.model.specs.Refusals.{entries, lost, misspelt, start, mkdir, unlink, 
 use Rattle.model.specs.Names.{names, spelt, Path, same_path}
 use Rattle.model.specs.Tables.{Entry, Tables, no_entry, live, trimmed, used}
 use Rattle.model.specs.Tree.{file, is_some, added_at, unless_gone, without}
-use Rattle.model.specs.History.{whole as whole-path, change}
+use Rattle.model.specs.History.{whole as whole_path, change}
 use Rattle.model.specs.Volume.{is_file, number_of, named, climb, item_path, body, dir_items, file_items, tree_of, checks, starts, leads, free_entry, first_bytes, freed, or_zero, new_entry, made, unlinked, tables_after, map_write, dirs_write, files_write, sector_writes}
 use Rattle.model.specs.Sound.{Shaped, Live, Sound}
 use Rattle.model.proofs.Common.Tests.{some_out}
@@ -57,7 +57,7 @@ module _ (i : Image) (t : Tables) (shaped : Shaped t) (s : Sound i t) where
       same_tree (ap (λ n. dir_items (set t.dirs n (new_entry t d p)) (set t.dirs n (new_entry t d p))) (ap or_zero m.1)
       ∙ dirs-made m.0 m.1 (new_entry t d p) (climb t.dirs 32 d ++ names p) f
       ∙ ap (λ (q : Path). set (dir_items t.dirs t.dirs) m.0 (Some (record { path = q; bytes = [] }))) (sym z.1)
-      ∙ ap (λ o. added_at o (tree_of t i).dirs (record { path = whole-path (tree_of t i) d p; bytes = [] })) (sym u))
+      ∙ ap (λ o. added_at o (tree_of t i).dirs (record { path = whole_path (tree_of t i) d p; bytes = [] })) (sym u))
       (ap (λ n. file_items (set t.dirs n (new_entry t d p)) (writes (dirs_write (made t d p) ∷ []) i).image t.files t.rows) (ap or_zero m.1)
       ∙ files-made m.0 m.1 (new_entry t d p) (climb t.dirs 32 d ++ names p) f (writes (dirs_write (made t d p) ∷ []) i).image (λ r h. data_kept (dirs_write (made t d p) ∷ []) i r h (omega arith, tt)))
 

@@ -5,7 +5,7 @@ use Rattle.std.proofs.lemmas.Bool.{cases_lt, ne_eqb}
 use Rattle.model.specs.Image.{Image}
 use Rattle.model.specs.Names.{Path, all_names}
 use Rattle.model.specs.Tables.{root, Entry, Tables, no_entry, live, trimmed, used, climbs}
-use Rattle.model.specs.Tree.{Item, is_dir as tree-dir}
+use Rattle.model.specs.Tree.{Item, is_dir as tree_dir}
 use Rattle.model.specs.Book.{parent}
 use Rattle.model.specs.Volume.{climb, item_path, body, dir_items, file_items, tree_of}
 use Rattle.model.specs.Sound.{Shaped, Live, Proper, Sound}
@@ -55,8 +55,8 @@ module _ (i : Image) (t : Tables) (w : whole i ≡ true) (shaped : Shaped t) (s 
       go (inl l) = let r : n < length t.rows = omega arith in let o = it_out (live (get_or t.files n no_entry)) (item_path t.dirs (get_or t.files n no_entry)) (body i (used (get_or t.rows n []))) x (sym (file_items-at t.dirs i t.files t.rows n l r) ∙ e) in (live_at t.files shaped.files_many n l o.0, o.1, o.2)
       go (inr l) = let a = length-file_items t.dirs i t.files t.rows same in let m : length (file_items t.dirs i t.files t.rows) ≤ n = omega arith in absurd (no_some x (sym (get_or_past (file_items t.dirs i t.files t.rows) n None m) ∙ e))
 
-  entry-held : (e : Entry) (x : Item) → x.path ≡ item_path t.dirs e → Proper t.dirs e → tree-dir (tree_of t i) (parent x.path) ≡ true
-  entry-held e x h p = ap (tree-dir (tree_of t i)) (ap parent h ∙ parent_push (climb t.dirs 32 e.parent) (trimmed e.name)) ∙ place-held i t shaped s e.parent p.held
+  entry-held : (e : Entry) (x : Item) → x.path ≡ item_path t.dirs e → Proper t.dirs e → tree_dir (tree_of t i) (parent x.path) ≡ true
+  entry-held e x h p = ap (tree_dir (tree_of t i)) (ap parent h ∙ parent_push (climb t.dirs 32 e.parent) (trimmed e.name)) ∙ place-held i t shaped s e.parent p.held
 
   file_sized : (n : ℕ) (x : Item) → Live t.files n → x.bytes ≡ body i (used (get_or t.rows n [])) → FileItem x
   file_sized n x l e = sized (length x.bytes) (length (used (get_or t.rows n []))) (length (get_or t.rows n [])) (ap length e ∙ row-length i (get_or t.rows n []) w (s.rows_proper n l)) (s.rows_proper n l).some_used (used-short (get_or t.rows n [])) (shaped.rows_long n l.0)

@@ -6,7 +6,7 @@ use Rattle.model.specs.Refusals.{entries, lost, misspelt, sectors, size, start, 
 use Rattle.model.specs.Names.{names, spelt, Path}
 use Rattle.model.specs.Tables.{Entry, Tables, no_entry, live, used, member}
 use Rattle.model.specs.Tree.{is_some, added_at}
-use Rattle.model.specs.History.{whole as whole-path, whole_sectors, change}
+use Rattle.model.specs.History.{whole as whole_path, whole_sectors, change}
 use Rattle.model.specs.Volume.{climb, item_path, body, file_items, tree_of, checks, starts, leads, free_entry, room_for, or_zero, new_entry, given, written, tables_after, data_writes, map_write, files_write, rows_write, sector_writes}
 use Rattle.model.specs.Sound.{Shaped, Sound}
 use Rattle.model.proofs.Common.Tests.{some_out}
@@ -70,4 +70,4 @@ module _ (i : Image) (t : Tables) (shaped : Shaped t) (s : Sound i t) where
       (ap (λ n. file_items t.dirs j (set t.files n (new_entry t d p)) (set t.rows n line)) (ap or_zero m.1)
       ∙ files-written m.0 m.1 (new_entry t d p) (climb t.dirs 32 d ++ names p) f w g.0 r.0 ws (omega arith, (omega arith, (omega arith, tt)))
       ∙ ap (λ (x : Path). set (tree_of t i).files m.0 (Some (record { path = x; bytes = w }))) (sym z.1)
-      ∙ ap (λ o. added_at o (tree_of t i).files (record { path = whole-path (tree_of t i) d p; bytes = w })) (sym q))
+      ∙ ap (λ o. added_at o (tree_of t i).files (record { path = whole_path (tree_of t i) d p; bytes = w })) (sym q))

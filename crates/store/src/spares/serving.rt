@@ -17,7 +17,7 @@ impl<S: Store> Spares<S> {
     // Whether there are at most eight pairs, of visible sectors that differ, with spares that differ, are not visible and
     // stand in the store below, which has the visible sectors too.
     pub fn fits(below: &S, visible: u16, pairs: &[Spare]) -> Result<(), Refusal>
-        ensures { result ≡ fit_answer (spares_fit (image below.now) visible pairs.now) }
+        ensures { result ≡ fit_answer (spares_fit (S.image below.now) visible pairs.now) }
     {
         if enough(below.size(), needed(visible, pairs)) {
             Ok(())
@@ -29,7 +29,7 @@ impl<S: Store> Spares<S> {
     // Takes the store below. Spares that do not fit make a store with no sector.
     pub fn lay(below: S, visible: u16, pairs: Vec<Spare>) -> Spares<S>
         ensures below { result.below ≡ below }
-        ensures image { spares_over image result ≡ spares_image (image below) visible pairs.items }
+        ensures image { spares_over S.image result ≡ spares_image (S.image below) visible pairs.items }
     {
         let need = needed(visible, &pairs);
         Spares {
@@ -43,7 +43,7 @@ impl<S: Store> Spares<S> {
     // Hands the store below back.
     pub fn into_below(self) -> S
         ensures below { result ≡ self.below }
-        ensures image { spares_over image self ≡ spares_image (image result) self.visible self.pairs.items }
+        ensures image { spares_over S.image self ≡ spares_image (S.image result) self.visible self.pairs.items }
     {
         let Spares { below, .. } = self;
         below
@@ -51,7 +51,7 @@ impl<S: Store> Spares<S> {
 
     // The sector below that serves a sector.
     fn place(&self, sector: u16) -> Result<u16, Fault>
-        ensures { Led (λ below. spares_image below self.now.visible self.now.pairs.items) (image self.now.below) sector result }
+        ensures { Led (λ below. spares_image below self.now.visible self.now.pairs.items) (S.image self.now.below) sector result }
     {
         if sector < self.size() {
             Ok(serving(&self.pairs, sector))
@@ -62,12 +62,12 @@ impl<S: Store> Spares<S> {
 }
 
 impl<S: Store> Store for Spares<S> {
-    ghost image = { spares_over S.Store.image };
+    ghost image = { spares_over S.image };
 
     ghost wholeness = { λ s.
         let v = s.visible in
         let ps = s.pairs.items in
-        layer-whole (sparing.fits v ps) v (sparing.serve v ps) (sparing.sound v ps) (S.Store.image s.below) (S.Store.wholeness s.below) };
+        layer-whole (sparing.fits v ps) v (sparing.serve v ps) (sparing.sound v ps) (S.Store.image s.below) (S.wholeness s.below) };
 
     fn size(&self) -> u16 {
         if enough(self.below.size(), self.need) {

@@ -1,7 +1,7 @@
 // A store that is dead almost everywhere, so that a fault tells which sector of it was asked.
 ghost use Rattle.std.specs.Prelude.{◌≡◌, ◌≤◌, length, if◌then◌else◌, Ok, Err, nat_eq, nat_lt};
 ghost use Rattle.model.specs.Sizes.{sector_size, most_sectors};
-ghost use Rattle.model.specs.Image.{bytes as live-sector, dead as dead-sector, past_end_at, dead_at, from_to};
+ghost use Rattle.model.specs.Image.{bytes as live_sector, dead as dead_sector, past_end_at, dead_at, from_to};
 ghost use Rattle.store.specs.Stubs.{stub_whole};
 
 use crate::faults::past_end;
@@ -38,7 +38,7 @@ impl Stub {
 }
 
 impl Store for Stub {
-    ghost image = { λ s. from_to 0 s.sectors (λ k. (if nat_eq k s.live then live-sector s.contents else dead-sector k s.depth)) };
+    ghost image = { λ s. from_to 0 s.sectors (λ k. (if nat_eq k s.live then live_sector s.contents else dead_sector k s.depth)) };
 
     ghost wholeness = { λ s. stub_whole s.sectors s.live s.contents s.depth s.few s.long };
 

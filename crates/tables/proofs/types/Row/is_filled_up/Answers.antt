@@ -1,5 +1,5 @@
 use Rattle.std.proofs.Common.{◌≡◌, ℕ, ◌+◌, ◌<◌, Bool, true, false, ◌&&◌, eqb, leb, List, length, get_or, drop, sym, refl, ap, ◌∙◌, arith}
-use mathlib.Core.Bool.{and_true, and_false}
+use mathlib.Core.Bool.{and-true, and-false}
 use Rattle.std.proofs.lemmas.List.{at_drop_more, at_drop_all}
 use Rattle.std.proofs.lemmas.Bool.{eq-eqb, ne_eqb}
 use Rattle.model.specs.Tables.{all, used}
@@ -20,7 +20,7 @@ pub returns-then-self-i-ne0 : goal.returns-then-self-i-ne0
 returns-then-self-i-ne0 c =
     let r = c.args.self.now.places in
     let fails = sym (next r c.loop-i.i false (omega arith) (ne_eqb (get_or r c.loop-i.i 0) 0 c.if-self-i-ne0.true)) ∙ c.loop-i.invariant ∙ ap (λ n. blanks (drop n r)) c.count-count.ensures in
-    sym (and_false (leb 1 (length (used r)))) ∙ ap (λ b. leb 1 (length (used r)) && b) fails
+    sym (and-false (leb 1 (length (used r)))) ∙ ap (λ b. leb 1 (length (used r)) && b) fails
 
 pub loop-i-preserved : goal.loop-i-preserved
 loop-i-preserved c =
@@ -32,4 +32,4 @@ returns c =
     let r = c.args.self.now.places in
     let short = used-short r in
     let all-blank = sym (at_drop_all blanks r c.loop-i.i (omega arith)) ∙ c.loop-i.invariant ∙ ap (λ n. blanks (drop n r)) c.count-count.ensures in
-    ap (λ n. leb 1 n) c.count-count.ensures ∙ sym (and_true (leb 1 (length (used r)))) ∙ ap (λ b. leb 1 (length (used r)) && b) all-blank
+    ap (λ n. leb 1 n) c.count-count.ensures ∙ sym (and-true (leb 1 (length (used r)))) ∙ ap (λ b. leb 1 (length (used r)) && b) all-blank
