@@ -3,8 +3,8 @@ use Rattle.tables.specs.Views.{entries_view}
 use Rattle.calls.proofs.Marking.{unmarked, so_far, Walk}
 use Rattle.calls.proofs.subtree.+mark_subtree.Given as goal
 
-abbrev pub decreases-mark-subtree : goal.decreases-mark-subtree
-decreases-mark-subtree l = unmarked l.marked.now
+abbrev pub decreases-mark_subtree : goal.decreases-mark_subtree
+decreases-mark_subtree l = unmarked l.marked.now
 
 abbrev pub invariant-loop-child : goal.invariant-loop-child
 invariant-loop-child l = (l.marked ≡ so_far (entries_view l.tables.dirs) l.dir l.initial.marked l.child) × Walk l.tables l.dir l.initial.marked

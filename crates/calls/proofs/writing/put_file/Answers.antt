@@ -7,4 +7,4 @@ pub returns : goal.returns
 returns c =
     let t = c.args.tables.now in
     let inside : c.args.number < length t.rows = (let l = t.rowed in let m = c.requires in omega arith) in
-    in_place t c.args.number c.args.entry c.args.row (view c.mark-row.new.self) inside c.mark-row.ensures
+    in_place t c.args.number c.args.entry c.args.row (view c.mark_row.new.self) inside c.mark_row.ensures

@@ -13,25 +13,25 @@ goes_on : (bs : List ℕ) → (length bs ≡ 0 → ⊥) → is_slash (get_or bs 
 goes_on [] h = absurd (h refl)
 goes_on (b ∷ bs) h = refl
 
-pub returns-in-default : goal.returns-in-default
-returns-in-default c =
+pub returns-in_default : goal.returns-in_default
+returns-in_default c =
     let p = c.args.p.now in
     let q = c.args.q.now in
-    sym (within-not p q (eqb-false (length p) 0 (sym c.if-is-empty.ensures)) (strip_prefix_is Decides-eqb q p None c.in-default.ensures.cases))
+    sym (within-not p q (eqb-false (length p) 0 (sym c.if-is_empty.ensures)) (strip_prefix_is Decides-eqb q p None c.in_default.ensures.cases))
 
-pub returns-then-is-empty-2 : goal.returns-then-is-empty-2
-returns-then-is-empty-2 c =
+pub returns-then-is_empty-2 : goal.returns-then-is_empty-2
+returns-then-is_empty-2 c =
     let p = c.args.p.now in
     let q = c.args.q.now in
     let rest = c.in-Some.rest in
-    c.if-is-empty-2.true
-    ∙ ends-here rest.now (eqb-true (length rest.now) 0 (sym c.if-is-empty-2.ensures))
-    ∙ sym (within_strip p q rest.now (eqb-false (length p) 0 (sym c.if-is-empty.ensures)) (strip_prefix_is Decides-eqb q p (Some rest) c.in-Some.ensures.cases))
+    c.if-is_empty-2.true
+    ∙ ends-here rest.now (eqb-true (length rest.now) 0 (sym c.if-is_empty-2.ensures))
+    ∙ sym (within_strip p q rest.now (eqb-false (length p) 0 (sym c.if-is_empty.ensures)) (strip_prefix_is Decides-eqb q p (Some rest) c.in-Some.ensures.cases))
 
-pub returns-else-is-empty-2 : goal.returns-else-is-empty-2
-returns-else-is-empty-2 c =
+pub returns-else-is_empty-2 : goal.returns-else-is_empty-2
+returns-else-is_empty-2 c =
     let p = c.args.p.now in
     let q = c.args.q.now in
     let rest = c.in-Some.rest in
-    goes_on rest.now (eqb-false (length rest.now) 0 (sym c.if-is-empty-2.ensures))
-    ∙ sym (within_strip p q rest.now (eqb-false (length p) 0 (sym c.if-is-empty.ensures)) (strip_prefix_is Decides-eqb q p (Some rest) c.in-Some.ensures.cases))
+    goes_on rest.now (eqb-false (length rest.now) 0 (sym c.if-is_empty-2.ensures))
+    ∙ sym (within_strip p q rest.now (eqb-false (length p) 0 (sym c.if-is_empty.ensures)) (strip_prefix_is Decides-eqb q p (Some rest) c.in-Some.ensures.cases))

@@ -16,10 +16,10 @@ pub loop-i-init : goal.loop-i-init
 loop-i-init c = refl
 
 pub loop-i-preserved : goal.loop-i-preserved
-loop-i-preserved c = passed rest head (λ e es. refl) c.args.entries.now c.loop-i.i c.index-entries-i.result c.loop-i-test.true c.index-entries-i.is (c.if-not-is-apart-from.ensures ∙ ap (head c.index-entries-i.result) (take_rest c.args.entries.now (c.loop-i.i + 1))) c.loop-i.invariant
+loop-i-preserved c = passed rest head (λ e es. refl) c.args.entries.now c.loop-i.i c.index-entries-i.result c.loop-i-test.true c.index-entries-i.is (c.if-not-is_apart_from.ensures ∙ ap (head c.index-entries-i.result) (take_rest c.args.entries.now (c.loop-i.i + 1))) c.loop-i.invariant
 
-pub returns-then-not-is-apart-from : goal.returns-then-not-is-apart-from
-returns-then-not-is-apart-from c = failed rest head (λ e es. refl) c.args.entries.now c.loop-i.i c.index-entries-i.result c.loop-i-test.true c.index-entries-i.is (c.if-not-is-apart-from.ensures ∙ ap (head c.index-entries-i.result) (take_rest c.args.entries.now (c.loop-i.i + 1))) c.loop-i.invariant
+pub returns-then-not-is_apart_from : goal.returns-then-not-is_apart_from
+returns-then-not-is_apart_from c = failed rest head (λ e es. refl) c.args.entries.now c.loop-i.i c.index-entries-i.result c.loop-i-test.true c.index-entries-i.is (c.if-not-is_apart_from.ensures ∙ ap (head c.index-entries-i.result) (take_rest c.args.entries.now (c.loop-i.i + 1))) c.loop-i.invariant
 
 pub returns : goal.returns
 returns c = ended rest head (λ e es. refl) c.args.entries.now c.loop-i.i c.loop-i-test.false c.loop-i.invariant

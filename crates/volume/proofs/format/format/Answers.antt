@@ -7,65 +7,65 @@ use Rattle.volume.proofs.Blanks.{blank_maps}
 use Rattle.volume.proofs.Formatting.{never, four, four_put, z, formatted_is, after_is, answer_is, bare_is, refused_leaves, answer_refused, left_refused}
 use Rattle.volume.proofs.format.format.Goals as goal
 
-pub returns-in-err-load-checked : goal.returns-in-err-load-checked
-returns-in-err-load-checked g c =
+pub returns-in_err-load_checked : goal.returns-in_err-load_checked
+returns-in_err-load_checked g c =
     let i = g.S.Store.image c.args.store.now in
-    let p = err_from_is_err_and c.from-residual.result c.from-residual.ensures.1 in
+    let p = err_from_is_err_and c.from_residual.result c.from_residual.ensures.1 in
     let back = p.1 ∙ ap Err p.2 in
-    let e = c.in-err-load-checked.field-0.0 in
-    let h = c.in-err-load-checked.ensures.answer in
-    record { answer = answer_refused i e c.from-residual.result back h; image = left_refused i (g.S.Store.image c.load-checked.new.store) e c.load-checked.ensures.image h; bare = refused_leaves (g.S.Store.image c.load-checked.new.store) e c.from-residual.result back }
+    let e = c.in_err-load_checked.field-0.0 in
+    let h = c.in_err-load_checked.ensures.answer in
+    record { answer = answer_refused i e c.from_residual.result back h; image = left_refused i (g.S.Store.image c.load_checked.new.store) e c.load_checked.ensures.image h; bare = refused_leaves (g.S.Store.image c.load_checked.new.store) e c.from_residual.result back }
 
-pub returns-in-err-write : goal.returns-in-err-write
-returns-in-err-write g c =
+pub returns-in_err-write : goal.returns-in_err-write
+returns-in_err-write g c =
     let i = g.S.Store.image c.args.store.now in
-    let f = four i (view c.in-ok-load-checked.field-0) c.in-ok-load-checked.ensures.answer.1 in
-    never i (g.S.Store.image c.dead-sectors.new.store) 0x100 c.write.result c.in-err-write.field-0.0 (c.dead-sectors.ensures.image ∙ c.load-checked.ensures.image) f.map-alive c.write.ensures.answer c.in-err-write.was
+    let f = four i (view c.in_ok-load_checked.field-0) c.in_ok-load_checked.ensures.answer.1 in
+    never i (g.S.Store.image c.dead_sectors.new.store) 0x100 c.write.result c.in_err-write.field-0.0 (c.dead_sectors.ensures.image ∙ c.load_checked.ensures.image) f.map-alive c.write.ensures.answer c.in_err-write.was
 
-pub returns-in-err-write-2 : goal.returns-in-err-write-2
-returns-in-err-write-2 g c =
+pub returns-in_err-write-2 : goal.returns-in_err-write-2
+returns-in_err-write-2 g c =
     let i = g.S.Store.image c.args.store.now in
-    let m = c.blank-map-map.result in
-    let f = four i (view c.in-ok-load-checked.field-0) c.in-ok-load-checked.ensures.answer.1 in
-    let was = c.dead-sectors.ensures.image ∙ c.load-checked.ensures.image in
+    let m = c.blank_map-map.result in
+    let f = four i (view c.in_ok-load_checked.field-0) c.in_ok-load_checked.ensures.answer.1 in
+    let was = c.dead_sectors.ensures.image ∙ c.load_checked.ensures.image in
     let one = c.write.ensures.image ∙ ap (λ (x : Image). put x 0x100 m) was in
-    never (put i 0x100 m) (g.S.Store.image c.write.new.self) 0x101 c.write-2.result c.in-err-write-2.field-0.0 one (four_put i 0x100 m f.map-alive f).dirs-alive c.write-2.ensures.answer c.in-err-write-2.was
+    never (put i 0x100 m) (g.S.Store.image c.write.new.self) 0x101 c.write-2.result c.in_err-write-2.field-0.0 one (four_put i 0x100 m f.map-alive f).dirs-alive c.write-2.ensures.answer c.in_err-write-2.was
 
-pub returns-in-err-write-3 : goal.returns-in-err-write-3
-returns-in-err-write-3 g c =
+pub returns-in_err-write-3 : goal.returns-in_err-write-3
+returns-in_err-write-3 g c =
     let i = g.S.Store.image c.args.store.now in
-    let m = c.blank-map-map.result in
-    let f = four i (view c.in-ok-load-checked.field-0) c.in-ok-load-checked.ensures.answer.1 in
-    let was = c.dead-sectors.ensures.image ∙ c.load-checked.ensures.image in
+    let m = c.blank_map-map.result in
+    let f = four i (view c.in_ok-load_checked.field-0) c.in_ok-load_checked.ensures.answer.1 in
+    let was = c.dead_sectors.ensures.image ∙ c.load_checked.ensures.image in
     let one = c.write.ensures.image ∙ ap (λ (x : Image). put x 0x100 m) was in
     let two = c.write-2.ensures.image ∙ ap (λ (x : Image). put x 0x101 z) one in
     let f₁ = four_put i 0x100 m f.map-alive f in
-    never (put (put i 0x100 m) 0x101 z) (g.S.Store.image c.write-2.new.self) 0x102 c.write-3.result c.in-err-write-3.field-0.0 two (four_put (put i 0x100 m) 0x101 z f₁.dirs-alive f₁).files-alive c.write-3.ensures.answer c.in-err-write-3.was
+    never (put (put i 0x100 m) 0x101 z) (g.S.Store.image c.write-2.new.self) 0x102 c.write-3.result c.in_err-write-3.field-0.0 two (four_put (put i 0x100 m) 0x101 z f₁.dirs-alive f₁).files-alive c.write-3.ensures.answer c.in_err-write-3.was
 
-pub returns-in-err-write-4 : goal.returns-in-err-write-4
-returns-in-err-write-4 g c =
+pub returns-in_err-write-4 : goal.returns-in_err-write-4
+returns-in_err-write-4 g c =
     let i = g.S.Store.image c.args.store.now in
-    let m = c.blank-map-map.result in
-    let f = four i (view c.in-ok-load-checked.field-0) c.in-ok-load-checked.ensures.answer.1 in
-    let was = c.dead-sectors.ensures.image ∙ c.load-checked.ensures.image in
+    let m = c.blank_map-map.result in
+    let f = four i (view c.in_ok-load_checked.field-0) c.in_ok-load_checked.ensures.answer.1 in
+    let was = c.dead_sectors.ensures.image ∙ c.load_checked.ensures.image in
     let one = c.write.ensures.image ∙ ap (λ (x : Image). put x 0x100 m) was in
     let two = c.write-2.ensures.image ∙ ap (λ (x : Image). put x 0x101 z) one in
     let three = c.write-3.ensures.image ∙ ap (λ (x : Image). put x 0x102 z) two in
     let f₁ = four_put i 0x100 m f.map-alive f in
     let f₂ = four_put (put i 0x100 m) 0x101 z f₁.dirs-alive f₁ in
-    never (put (put (put i 0x100 m) 0x101 z) 0x102 z) (g.S.Store.image c.write-3.new.self) 0x103 c.write-4.result c.in-err-write-4.field-0.0 three (four_put (put (put i 0x100 m) 0x101 z) 0x102 z f₂.files-alive f₂).rows-alive c.write-4.ensures.answer c.in-err-write-4.was
+    never (put (put (put i 0x100 m) 0x101 z) 0x102 z) (g.S.Store.image c.write-3.new.self) 0x103 c.write-4.result c.in_err-write-4.field-0.0 three (four_put (put (put i 0x100 m) 0x101 z) 0x102 z f₂.files-alive f₂).rows-alive c.write-4.ensures.answer c.in_err-write-4.was
 
 pub returns : goal.returns
 returns g c =
     let i = g.S.Store.image c.args.store.now in
-    let m = c.blank-map-map.result in
-    let passed = c.in-ok-load-checked.ensures.answer in
-    let f = four i (view c.in-ok-load-checked.field-0) passed.1 in
-    let was = c.dead-sectors.ensures.image ∙ c.load-checked.ensures.image in
+    let m = c.blank_map-map.result in
+    let passed = c.in_ok-load_checked.ensures.answer in
+    let f = four i (view c.in_ok-load_checked.field-0) passed.1 in
+    let was = c.dead_sectors.ensures.image ∙ c.load_checked.ensures.image in
     let one = c.write.ensures.image ∙ ap (λ (x : Image). put x 0x100 m) was in
     let two = c.write-2.ensures.image ∙ ap (λ (x : Image). put x 0x101 z) one in
     let three = c.write-3.ensures.image ∙ ap (λ (x : Image). put x 0x102 z) two in
     let four = c.write-4.ensures.image ∙ ap (λ (x : Image). put x 0x103 z) three in
-    let told = c.blank-map-map.ensures ∙ blank_maps c.dead-sectors.result (g.S.Store.image c.load-checked.new.store) c.dead-sectors.ensures.dead ∙ ap (λ (x : Image). from_to 0 512 (blank_mark x)) c.load-checked.ensures.image in
+    let told = c.blank_map-map.ensures ∙ blank_maps c.dead_sectors.result (g.S.Store.image c.load_checked.new.store) c.dead_sectors.ensures.dead ∙ ap (λ (x : Image). from_to 0 512 (blank_mark x)) c.load_checked.ensures.image in
     let left = four ∙ formatted_is i m f told in
     record { answer = answer_is i passed.0; image = after_is i (g.S.Store.image c.write-4.new.self) passed.0 left; bare = λ _. bare_is i (g.S.Store.image c.write-4.new.self) (g.met.S.Store.wholeness c.args.store.now) passed.0 left }

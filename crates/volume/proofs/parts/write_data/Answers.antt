@@ -6,12 +6,12 @@ use Rattle.model.proofs.Tables.Places.{used-at, used-short}
 use Rattle.volume.proofs.Writing.{data_more, data_left, data_broken, data_over, data_enough}
 use Rattle.volume.proofs.parts.write_data.Goals as goal
 
-pub returns-in-default : goal.returns-in-default
-returns-in-default g c =
+pub returns-in_default : goal.returns-in_default
+returns-in_default g c =
     let ss = used c.args.row.now.places in
     let e = c.count-k-end.ensures in
     let l : c.loop-k.k < length ss = omega arith in
-    absurd (data_enough ss c.loop-k.k c.loop-k.rest.now l c.loop-k.invariant.1 c.in-default.ensures.cases)
+    absurd (data_enough ss c.loop-k.k c.loop-k.rest.now l c.loop-k.invariant.1 c.in_default.ensures.cases)
 
 pub bounds-row-k : goal.bounds-row-k
 bounds-row-k g c =
@@ -20,14 +20,14 @@ bounds-row-k g c =
     let e = c.count-k-end.ensures in
     omega arith
 
-pub returns-in-err-write : goal.returns-in-err-write
-returns-in-err-write g c =
+pub returns-in_err-write : goal.returns-in_err-write
+returns-in_err-write g c =
     let ss = used c.args.row.now.places in
     let e = c.count-k-end.ensures in
     let l : c.loop-k.k < length ss = omega arith in
-    let p = err_from_is_err_and c.from-residual.result c.from-residual.ensures.1 in
-    data_broken (g.S.Store.image c.args.store.now) (data_writes ss c.args.contents.now) ss c.loop-k.k c.loop-k.rest.now (g.S.Store.image c.loop-k.store) (g.S.Store.image c.write.new.self) c.from.result c.in-Some.sector.now c.in-err-write.field-0.0 c.from-residual.result l c.loop-k.invariant.0
-    (c.from.ensures ∙ sym (used-at c.args.row.now.places c.loop-k.k l)) c.in-Some.ensures.cases.0 (sym c.write.ensures.answer ∙ c.in-err-write.was) c.write.ensures.image (p.1 ∙ ap Err p.2)
+    let p = err_from_is_err_and c.from_residual.result c.from_residual.ensures.1 in
+    data_broken (g.S.Store.image c.args.store.now) (data_writes ss c.args.contents.now) ss c.loop-k.k c.loop-k.rest.now (g.S.Store.image c.loop-k.store) (g.S.Store.image c.write.new.self) c.from.result c.in-Some.sector.now c.in_err-write.field-0.0 c.from_residual.result l c.loop-k.invariant.0
+    (c.from.ensures ∙ sym (used-at c.args.row.now.places c.loop-k.k l)) c.in-Some.ensures.cases.0 (sym c.write.ensures.answer ∙ c.in_err-write.was) c.write.ensures.image (p.1 ∙ ap Err p.2)
 
 pub loop-k-preserved : goal.loop-k-preserved
 loop-k-preserved g c =
@@ -35,7 +35,7 @@ loop-k-preserved g c =
     let e = c.count-k-end.ensures in
     let l : c.loop-k.k < length ss = omega arith in (
       data_more (g.S.Store.image c.args.store.now) (data_writes ss c.args.contents.now) ss c.loop-k.k c.loop-k.rest.now (g.S.Store.image c.loop-k.store) (g.S.Store.image c.write.new.self) c.from.result c.in-Some.sector.now c.in-Some.more.now l c.loop-k.invariant.0
-          (c.from.ensures ∙ sym (used-at c.args.row.now.places c.loop-k.k l)) c.in-Some.ensures.cases.0 c.in-Some.ensures.cases.1 (sym c.write.ensures.answer ∙ c.in-ok-write.was) c.write.ensures.image,
+          (c.from.ensures ∙ sym (used-at c.args.row.now.places c.loop-k.k l)) c.in-Some.ensures.cases.0 c.in-Some.ensures.cases.1 (sym c.write.ensures.answer ∙ c.in_ok-write.was) c.write.ensures.image,
       data_left ss c.loop-k.k c.loop-k.rest.now c.in-Some.more.now l c.loop-k.invariant.1 c.in-Some.ensures.cases.1,
     )
 

@@ -15,10 +15,10 @@ loop-s-preserved g c =
     let inv = c.loop-s.invariant in
     let at : c.from.result ≡ s = c.from.ensures in
     let within : s < length dead = let k = inv.1 in let t = c.loop-s-test.true in omega arith in
-    let found : c.is-err.result ≡ is_err (access i s) = c.is-err.ensures.value ∙ ap is_err c.read.ensures.answer ∙ ap (λ x. is_err (access x s)) inv.0 in (
+    let found : c.is_err.result ≡ is_err (access i s) = c.is_err.ensures.value ∙ ap is_err c.read.ensures.answer ∙ ap (λ x. is_err (access x s)) inv.0 in (
       c.read.ensures.image ∙ inv.0,
-      length-set dead c.from.result c.is-err.result ∙ inv.1,
-      subst (λ (n : ℕ). Told (set dead n c.is-err.result) i (s + 1)) (sym at) (told_more dead i s c.is-err.result within inv.2 (found ∙ probe i s)),
+      length-set dead c.from.result c.is_err.result ∙ inv.1,
+      subst (λ (n : ℕ). Told (set dead n c.is_err.result) i (s + 1)) (sym at) (told_more dead i s c.is_err.result within inv.2 (found ∙ probe i s)),
     )
 
 pub returns : goal.returns

@@ -4,5 +4,5 @@ use Rattle.calls.proofs.Admission.{admitted}
 use Rattle.tables.proofs.Shapes.{shaped}
 use Rattle.calls.proofs.consistent.Consistent.admit.Goals as goal
 
-pub invariant-of-result : goal.invariant-of-result
-invariant-of-result c = let t = c.args.tables in (admitted c.args.dead.now (view t) (shaped t) (sym c.if-not-is-sound.ensures), tt)
+pub invariant_of-result : goal.invariant_of-result
+invariant_of-result c = let t = c.args.tables in (admitted c.args.dead.now (view t) (shaped t) (sym c.if-not-is_sound.ensures), tt)

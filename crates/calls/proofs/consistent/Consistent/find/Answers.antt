@@ -13,7 +13,7 @@ returns-in-Some c =
     let t = view c.args.self.now.tables in
     let p = c.args.path.now in
     let item = c.in-Some.ensures.value in (
-      skip (not (spelt_or_empty p)) misspelt _ (ap not (sym c.if-not-is-spelt-or-empty.ensures)) (skip (not (starts t c.args.start)) start _ (ap not (sym c.if-not-is-start.ensures)) (skip (not (is_some (named t c.args.start p))) lost _ (ap (λ o. not (is_some o)) (sym item)) refl)),
+      skip (not (spelt_or_empty p)) misspelt _ (ap not (sym c.if-not-is_spelt_or_empty.ensures)) (skip (not (starts t c.args.start)) start _ (ap not (sym c.if-not-is_start.ensures)) (skip (not (is_some (named t c.args.start p))) lost _ (ap (λ o. not (is_some o)) (sym item)) refl)),
       sym item,
     )
 
@@ -23,4 +23,4 @@ returns-in-None c =
     let t = view c.args.self.now.tables in
     let p = c.args.path.now in
     let item = c.in-None.ensures.value in
-    skip (not (spelt_or_empty p)) misspelt _ (ap not (sym c.if-not-is-spelt-or-empty.ensures)) (skip (not (starts t c.args.start)) start _ (ap not (sym c.if-not-is-start.ensures)) (stop (not (is_some (named t c.args.start p))) lost _ (ap (λ o. not (is_some o)) (sym item))))
+    skip (not (spelt_or_empty p)) misspelt _ (ap not (sym c.if-not-is_spelt_or_empty.ensures)) (skip (not (starts t c.args.start)) start _ (ap not (sym c.if-not-is_start.ensures)) (stop (not (is_some (named t c.args.start p))) lost _ (ap (λ o. not (is_some o)) (sym item))))

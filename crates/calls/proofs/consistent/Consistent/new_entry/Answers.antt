@@ -5,11 +5,11 @@ use Rattle.tables.specs.Views.{view, entry_view}
 use Rattle.calls.proofs.Items.{vacant_taken, vacant-passed, new_is, last-short}
 use Rattle.calls.proofs.consistent.Consistent.new_entry.Goals as goal
 
-pub returns-then-is-some : goal.returns-then-is-some
-returns-then-is-some c =
+pub returns-then-is_some : goal.returns-then-is_some
+returns-then-is_some c =
     let t = view c.args.self.now.tables in
     let placed = c.in-Some.ensures in
-    vacant_taken t c.args.start c.args.path.now c.requires c.in-Some.dir placed.0 c.item-in.result (c.item-in.ensures.value ∙ ap (item_in t (Some c.in-Some.dir)) placed.1) c.if-is-some.ensures
+    vacant_taken t c.args.start c.args.path.now c.requires c.in-Some.dir placed.0 c.item_in.result (c.item_in.ensures.value ∙ ap (item_in t (Some c.in-Some.dir)) placed.1) c.if-is_some.ensures
 
 pub returns : goal.returns
 returns c =
@@ -17,6 +17,6 @@ returns c =
     let p = c.args.path.now in
     let placed = c.in-Some.ensures in
     let short : length c.in-Some.name.now ≤ 15 = subst (λ (n : List ℕ). length n ≤ 15) (sym placed.1) (last-short p c.requires) in (
-      vacant-passed t c.args.start p c.requires c.in-Some.dir placed.0 c.item-in.result (c.item-in.ensures.value ∙ ap (item_in t (Some c.in-Some.dir)) placed.1) c.if-is-some.ensures,
+      vacant-passed t c.args.start p c.requires c.in-Some.dir placed.0 c.item_in.result (c.item_in.ensures.value ∙ ap (item_in t (Some c.in-Some.dir)) placed.1) c.if-is_some.ensures,
       new_is t c.args.start p c.in-Some.dir (entry_view c.new.result) placed.0 c.new.ensures.value.0 (c.new.ensures.fits short ∙ ap padded placed.1),
     )

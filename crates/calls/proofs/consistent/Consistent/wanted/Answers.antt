@@ -9,23 +9,23 @@ use Rattle.calls.proofs.Choosing.{front_stopped, handed_on}
 use Rattle.calls.proofs.Items.{kind-other, kind_none, there-passed, there_lost, spelt-long}
 use Rattle.calls.proofs.consistent.Consistent.wanted.Goals as goal
 
-pub returns-in-err-check-start : goal.returns-in-err-check-start
-returns-in-err-check-start c =
+pub returns-in_err-check_start : goal.returns-in_err-check_start
+returns-in_err-check_start c =
     let t = view c.args.self.now.tables in
     let d = c.args.start in
     let p = c.args.path.now in
-    let e = c.in-err-check-start.field-0.0 in
-    handed_on (there c.args.kind t d p) _ c.from-residual.result e c.from-residual.ensures.1 (front_stopped (begun t d p) (check (not (is_kind c.args.kind (named t d p))) lost ∷ []) e c.in-err-check-start.ensures)
+    let e = c.in_err-check_start.field-0.0 in
+    handed_on (there c.args.kind t d p) _ c.from_residual.result e c.from_residual.ensures.1 (front_stopped (begun t d p) (check (not (is_kind c.args.kind (named t d p))) lost ∷ []) e c.in_err-check_start.ensures)
 
-pub returns-in-default : goal.returns-in-default
-returns-in-default c =
+pub returns-in_default : goal.returns-in_default
+returns-in_default c =
     let t = view c.args.self.now.tables in
-    there_lost c.args.kind t c.args.start c.args.path.now None c.in-ok-check-start.ensures.0 c.in-default.ensures.value (kind_none c.args.kind)
+    there_lost c.args.kind t c.args.start c.args.path.now None c.in_ok-check_start.ensures.0 c.in_default.ensures.value (kind_none c.args.kind)
 
 pub returns-else-eq : goal.returns-else-eq
 returns-else-eq c =
     let t = view c.args.self.now.tables in
-    there_lost c.args.kind t c.args.start c.args.path.now (Some (c.in-Some.found, c.in-Some.number)) c.in-ok-check-start.ensures.0 c.in-Some.ensures.value (kind-other c.args.kind c.in-Some.found c.in-Some.number c.if-eq.ensures)
+    there_lost c.args.kind t c.args.start c.args.path.now (Some (c.in-Some.found, c.in-Some.number)) c.in_ok-check_start.ensures.0 c.in-Some.ensures.value (kind-other c.args.kind c.in-Some.found c.in-Some.number c.if-eq.ensures)
 
 pub returns-then-eq : goal.returns-then-eq
 returns-then-eq c =
@@ -33,6 +33,6 @@ returns-then-eq c =
     let d = c.args.start in
     let p = c.args.path.now in
     let n = c.in-Some.number in
-    let begins = c.in-ok-check-start.ensures in
+    let begins = c.in_ok-check_start.ensures in
     let item : named t d p ≡ Some (c.args.kind, n) = sym c.in-Some.ensures.value ∙ ap (λ (k : Kind). Some (k, n)) c.if-eq.ensures in
     (there-passed c.args.kind t d p n begins.0 item, (item, c.in-Some.ensures.bound (spelt-long p begins.1)))

@@ -11,13 +11,13 @@ listed c =
     ∙ sym (contains_member c.args.sector c.deref.result.now c.contains.result c.contains.ensures.cases)
 
 inside : (c : After-contains) → c.args.sector < length (flat_of c.args.self.now)
-inside c = subst (λ n. c.args.sector < n) c.size.ensures c.if-sector-size.false
+inside c = subst (λ n. c.args.sector < n) c.size.ensures c.if-sector_size.false
 
 pub returns-then-contains : goal.returns-then-contains
 returns-then-contains c =
     let s = c.args.self.now in
     let here = (goal.at.returns-then-contains c).After-contains in
-    ap Err c.dead-here.ensures ∙ sym (flat_dead (vec_items s.buffer) (vec_items s.dead) c.args.sector (inside here) (listed here ∙ c.if-contains.true))
+    ap Err c.dead_here.ensures ∙ sym (flat_dead (vec_items s.buffer) (vec_items s.dead) c.args.sector (inside here) (listed here ∙ c.if-contains.true))
 
 pub returns-else-contains : goal.returns-else-contains
 returns-else-contains c =

@@ -6,8 +6,8 @@ use Rattle.store.specs.Stretches.{room_at}
 use Rattle.store.specs.Tabled.{filled_at}
 use Rattle.store.proofs.flat.Flat.fill.Goals as goal
 
-pub copy-out-requires : goal.copy-out-requires
-copy-out-requires c =
+pub copy_out-requires : goal.copy_out-requires
+copy_out-requires c =
     let s = c.args.self.now in
     room_at c.deref.result.now (vec_items s.buffer) c.from.result c.args.sector c.deref.ensures.value c.from.ensures (flat_room (vec_items s.buffer) (vec_items s.dead) c.args.sector c.requires)
 
@@ -15,4 +15,4 @@ pub returns : goal.returns
 returns c =
     let s = c.args.self.now in
     let seen = flat_seen (vec_items s.buffer) (vec_items s.dead) c.args.sector c.requires in
-    c.copy-out.ensures ∙ (ap₂ stretch c.deref.ensures.value c.from.ensures ∙ sym (filled_at (flat_of s) c.args.sector c.args.buffer.now (Ok (stretch (vec_items s.buffer) c.args.sector)) seen))
+    c.copy_out.ensures ∙ (ap₂ stretch c.deref.ensures.value c.from.ensures ∙ sym (filled_at (flat_of s) c.args.sector c.args.buffer.now (Ok (stretch (vec_items s.buffer) c.args.sector)) seen))

@@ -15,20 +15,20 @@ copied_out c b was out p e o =
     let stands = stretch (half b (vec_items s.even) (vec_items s.odd)) (c.args.sector / 2) in
     o ∙ (ap₂ stretch e c.from-k.ensures ∙ sym (filled_at (pair_of s) c.args.sector c.args.buffer.now (Ok stands) (pair_seen (vec_items s.even) (vec_items s.odd) c.args.sector c.requires b p)))
 
-pub copy-out-requires : goal.copy-out-requires
-copy-out-requires c =
+pub copy_out-requires : goal.copy_out-requires
+copy_out-requires c =
     let s = c.args.self.now in
     room_at c.deref.result.now (vec_items s.even) c.from-k.result (c.args.sector / 2) c.deref.ensures.value c.from-k.ensures (pair_room (vec_items s.even) (vec_items s.odd) c.args.sector c.requires true)
 
-pub copy-out-requires-else-sector-eq0 : goal.copy-out-requires-else-sector-eq0
-copy-out-requires-else-sector-eq0 c =
+pub copy_out-requires-else-sector-eq0 : goal.copy_out-requires-else-sector-eq0
+copy_out-requires-else-sector-eq0 c =
     let s = c.args.self.now in
     room_at c.deref-else-sector-eq0.result.now (vec_items s.odd) c.from-k.result (c.args.sector / 2) c.deref-else-sector-eq0.ensures.value c.from-k.ensures (pair_room (vec_items s.even) (vec_items s.odd) c.args.sector c.requires false)
 
 pub returns-then-sector-eq0 : goal.returns-then-sector-eq0
 returns-then-sector-eq0 c =
-    copied_out (goal.at.returns-then-sector-eq0 c).After-from-k true c.deref.result.now c.copy-out.new.buffer (is_even c.args.sector c.if-sector-eq0.true) c.deref.ensures.value c.copy-out.ensures
+    copied_out (goal.at.returns-then-sector-eq0 c).After-from-k true c.deref.result.now c.copy_out.new.buffer (is_even c.args.sector c.if-sector-eq0.true) c.deref.ensures.value c.copy_out.ensures
 
 pub returns-else-sector-eq0 : goal.returns-else-sector-eq0
 returns-else-sector-eq0 c =
-    copied_out (goal.at.returns-else-sector-eq0 c).After-from-k false c.deref-else-sector-eq0.result.now c.copy-out-else-sector-eq0.new.buffer (is_odd c.args.sector c.if-sector-eq0.false) c.deref-else-sector-eq0.ensures.value c.copy-out-else-sector-eq0.ensures
+    copied_out (goal.at.returns-else-sector-eq0 c).After-from-k false c.deref-else-sector-eq0.result.now c.copy_out-else-sector-eq0.new.buffer (is_odd c.args.sector c.if-sector-eq0.false) c.deref-else-sector-eq0.ensures.value c.copy_out-else-sector-eq0.ensures

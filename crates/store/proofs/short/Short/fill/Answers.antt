@@ -6,12 +6,12 @@ use Rattle.store.specs.Stretches.{room_at}
 use Rattle.store.specs.Tabled.{filled_at}
 use Rattle.store.proofs.short.Short.fill.Goals as goal
 
-pub copy-out-requires : goal.copy-out-requires
-copy-out-requires c =
+pub copy_out-requires : goal.copy_out-requires
+copy_out-requires c =
     let s = c.args.self.now in
     room_at c.deref.result.now (vec_items s.buffer) c.place.result (short_place c.args.sector) c.deref.ensures.value c.place.ensures (short_room (vec_items s.buffer) c.args.sector c.requires)
 
 pub returns : goal.returns
 returns c =
     let s = c.args.self.now in
-    c.copy-out.ensures ∙ (ap₂ stretch c.deref.ensures.value c.place.ensures ∙ sym (filled_at (short_of s) c.args.sector c.args.buffer.now (Ok (stretch (vec_items s.buffer) (short_place c.args.sector))) (short_seen (vec_items s.buffer) c.args.sector c.requires)))
+    c.copy_out.ensures ∙ (ap₂ stretch c.deref.ensures.value c.place.ensures ∙ sym (filled_at (short_of s) c.args.sector c.args.buffer.now (Ok (stretch (vec_items s.buffer) (short_place c.args.sector))) (short_seen (vec_items s.buffer) c.args.sector c.requires)))

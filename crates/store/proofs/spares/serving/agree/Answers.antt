@@ -11,7 +11,7 @@ returns-then-pair-visible c =
     let i = c.loop-i.i in
     let p = get_or ps i no_pair in
     let qs = drop (i + 1) ps in
-    let on = sym (at_drop_more (agreeing v) ps i no_pair c.loop-i-test.true) ∙ (c.loop-i.invariant ∙ sym (fit_agreeing v ps c.if-pairs-gt-MOST-LISTED.false)) in
+    let on = sym (at_drop_more (agreeing v) ps i no_pair c.loop-i-test.true) ∙ (c.loop-i.invariant ∙ sym (fit_agreeing v ps c.if-pairs-gt-MOST_LISTED.false)) in
     elim c.then-pair-visible.branch [
       | then-pair-visible-via-then-pair-visible w ↦ sym (sector_past v p qs w.if-pair-visible.true) ∙ on
       | then-pair-visible-via-else-pair-visible+then-pair-visible-2 w ↦ sym (spare_under v p qs w.if-pair-visible-2.true) ∙ on
@@ -32,4 +32,4 @@ returns c =
     let v = c.args.visible in
     let ps = c.args.pairs.now in
     sym (at_drop_all (agreeing v) ps c.loop-i.i c.loop-i-test.false)
-    ∙ (c.loop-i.invariant ∙ sym (fit_agreeing v ps c.if-pairs-gt-MOST-LISTED.false))
+    ∙ (c.loop-i.invariant ∙ sym (fit_agreeing v ps c.if-pairs-gt-MOST_LISTED.false))

@@ -4,5 +4,5 @@ use Rattle.tables.proofs.types.Entry.decode.Goals as goal
 
 pub returns : goal.returns
 returns c =
-    let name = c.copy-from-slice.ensures.after ∙ take_rest c.args.bytes.now 1 in
+    let name = c.copy_from_slice.ensures.after ∙ take_rest c.args.bytes.now 1 in
     λ i. record { parent = get_or c.args.bytes.now 0 0; name = name i }

@@ -19,14 +19,14 @@ pub loop-other-preserved : goal.loop-other-preserved
 loop-other-preserved c =
     let e = c.args.self.now in
     let o = c.other-item.result in
-    let h : false ≡ same_place (entry_view e) (entry_view o) = c.if-shares-place.ensures in
+    let h : false ≡ same_place (entry_view e) (entry_view o) = c.if-shares_place.ensures in
     passed (rest e) (head e) (λ o os. refl) c.args.others.now c.loop-other.other-index o c.loop-other-test.true c.other-item.is (ap not h) c.loop-other.invariant
 
-pub returns-then-shares-place : goal.returns-then-shares-place
-returns-then-shares-place c =
+pub returns-then-shares_place : goal.returns-then-shares_place
+returns-then-shares_place c =
     let e = c.args.self.now in
     let o = c.other-item.result in
-    let h : true ≡ same_place (entry_view e) (entry_view o) = c.if-shares-place.ensures in
+    let h : true ≡ same_place (entry_view e) (entry_view o) = c.if-shares_place.ensures in
     failed (rest e) (head e) (λ o os. refl) c.args.others.now c.loop-other.other-index o c.loop-other-test.true c.other-item.is (ap not h) c.loop-other.invariant
 
 pub returns : goal.returns

@@ -13,14 +13,14 @@ loop-i-init c = (c.told-claimed, refl, λ s. refl)
 pub bounds-self-i : goal.bounds-self-i
 bounds-self-i c = let short = used-short c.args.self.now.places in omega arith
 
-pub returns-then-not-is-claimable : goal.returns-then-not-is-claimable
-returns-then-not-is-claimable c =
+pub returns-then-not-is_claimable : goal.returns-then-not-is_claimable
+returns-then-not-is_claimable c =
     let r = c.args.self.now.places in
     let lives = alive_by c.args.dead.now in
     let i : c.loop-i.i < length (used r) = omega arith in
-    let fails = place_fails lives c.loop-i.claimed r c.loop-i.i i (fits lives (told c.args.claimed.now) (used r)) c.if-not-is-claimable.ensures c.loop-i.invariant.1 in
+    let fails = place_fails lives c.loop-i.claimed r c.loop-i.i i (fits lives (told c.args.claimed.now) (used r)) c.if-not-is_claimable.ensures c.loop-i.invariant.1 in
     record {
-      answer = fails ∙ ap (λ b. b && fits lives (told c.args.claimed.now) (used r)) c.if-not-is-filled-up.ensures ∙ sym (row_test lives (told c.args.claimed.now) r);
+      answer = fails ∙ ap (λ b. b && fits lives (told c.args.claimed.now) (used r)) c.if-not-is_filled_up.ensures ∙ sym (row_test lives (told c.args.claimed.now) r);
       after = λ e. absurd (false≢true e);
     }
 
@@ -30,7 +30,7 @@ loop-i-preserved c =
     let lives = alive_by c.args.dead.now in
     let i : c.loop-i.i < length (used r) = omega arith in (
       length-set c.loop-i.claimed (get_or r c.loop-i.i 0) true ∙ c.loop-i.invariant.0,
-      place_passes lives c.loop-i.claimed r c.loop-i.i i (fits lives (told c.args.claimed.now) (used r)) c.if-not-is-claimable.ensures c.loop-i.invariant.1,
+      place_passes lives c.loop-i.claimed r c.loop-i.i i (fits lives (told c.args.claimed.now) (used r)) c.if-not-is_claimable.ensures c.loop-i.invariant.1,
       λ s. place_claims lives c.loop-i.claimed r c.loop-i.i i s (member s (used r) || told c.args.claimed.now s) (c.loop-i.invariant.2 s),
     )
 
@@ -41,6 +41,6 @@ returns c =
     let past : length (used r) ≤ c.loop-i.i = omega arith in
     let passes = sym (at_drop_all (fits lives (told c.loop-i.claimed)) (used r) c.loop-i.i past) ∙ c.loop-i.invariant.1 in
     record {
-      answer = passes ∙ ap (λ b. b && fits lives (told c.args.claimed.now) (used r)) c.if-not-is-filled-up.ensures ∙ sym (row_test lives (told c.args.claimed.now) r);
+      answer = passes ∙ ap (λ b. b && fits lives (told c.args.claimed.now) (used r)) c.if-not-is_filled_up.ensures ∙ sym (row_test lives (told c.args.claimed.now) r);
       after = λ e s. sym (at_drop_all (λ ss. member s ss || told c.loop-i.claimed s) (used r) c.loop-i.i past) ∙ c.loop-i.invariant.2 s;
     }

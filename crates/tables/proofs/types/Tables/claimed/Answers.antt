@@ -8,7 +8,7 @@ use Rattle.tables.specs.Rules.{alive_by}
 use Rattle.tables.specs.Views.{view, entry_view}
 use Rattle.tables.proofs.Gathering.{Claims, none_claimed, all_claimed, free_passes, row_claims, row_refused}
 use Rattle.tables.proofs.types.Tables.claimed.Goals as goal
-use Rattle.tables.proofs.types.Tables.claimed.Goals.{else-is-live-via-then-is-live+else-not-claim as claims, else-is-live-via-else-is-live as free}
+use Rattle.tables.proofs.types.Tables.claimed.Goals.{else-is_live-via-then-is_live+else-not-claim as claims, else-is_live-via-else-is_live as free}
 
 in_files : (t : Tables) (i : ℕ) → i < 32 → i < length (view t).files
 in_files t i l = let h = length-map t.files entry_view in let f = t.filed in omega arith
@@ -30,10 +30,10 @@ returns-then-not-claim c =
     let t = c.args.self.now in
     let i = c.loop-i.i in
     let e = get_or t.files i c.index-self-i.result in
-    let r = get_or t.rows i c.index-self-i-then-is-live.result in
+    let r = get_or t.rows i c.index-self-i-then-is_live.result in
     row_refused (alive_by c.args.dead.now) (view t) c.loop-i.claimed i c.loop-i.invariant (in_files t i c.loop-i-test.true) (in_rows t i c.loop-i-test.true) (entry_view e) r.places
-    (file_at t i c.index-self-i.result c.loop-i-test.true) (row_at t i c.index-self-i-then-is-live.result c.loop-i-test.true)
-    (sym c.if-is-live.ensures) c.if-not-claim.ensures.answer
+    (file_at t i c.index-self-i.result c.loop-i-test.true) (row_at t i c.index-self-i-then-is_live.result c.loop-i-test.true)
+    (sym c.if-is_live.ensures) c.if-not-claim.ensures.answer
 
 pub loop-i-preserved : goal.loop-i-preserved
 loop-i-preserved c =
@@ -41,17 +41,17 @@ loop-i-preserved c =
     let i = c.loop-i.i in
     let dead = c.args.dead.now in
     let e = get_or t.files i c.index-self-i.result in
-    elim c.else-is-live.branch [
+    elim c.else-is_live.branch [
       | claims w ↦
-          let r = get_or t.rows i w.index-self-i-then-is-live.result in
+          let r = get_or t.rows i w.index-self-i-then-is_live.result in
           subst (λ d. Claims (alive_by dead) (view t) d (i + 1)) (sym w.claimed-is)
           (row_claims (alive_by dead) (view t) c.loop-i.claimed i c.loop-i.invariant (in_files t i c.loop-i-test.true) (in_rows t i c.loop-i-test.true) (entry_view e) r.places
-          (file_at t i c.index-self-i.result c.loop-i-test.true) (row_at t i w.index-self-i-then-is-live.result c.loop-i-test.true)
-          (sym w.if-is-live.ensures) w.if-not-claim.ensures.answer w.claim.last.claimed w.claim.array_long (w.if-not-claim.ensures.after refl))
+          (file_at t i c.index-self-i.result c.loop-i-test.true) (row_at t i w.index-self-i-then-is_live.result c.loop-i-test.true)
+          (sym w.if-is_live.ensures) w.if-not-claim.ensures.answer w.claim.last.claimed w.claim.array_long (w.if-not-claim.ensures.after refl))
       | free w ↦
           subst (λ d. Claims (alive_by dead) (view t) d (i + 1)) (sym w.claimed-is)
           (free_passes (alive_by dead) (view t) c.loop-i.claimed i c.loop-i.invariant (in_files t i c.loop-i-test.true) (in_rows t i c.loop-i-test.true) (entry_view e) (get_or (view t).rows i [])
-          (file_at t i c.index-self-i.result c.loop-i-test.true) refl (sym w.if-is-live.ensures))
+          (file_at t i c.index-self-i.result c.loop-i-test.true) refl (sym w.if-is_live.ensures))
     ]
 
 pub returns : goal.returns

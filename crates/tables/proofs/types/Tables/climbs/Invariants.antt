@@ -4,4 +4,4 @@ use Rattle.tables.specs.Views.{entries_view}
 use Rattle.tables.proofs.types.Tables.climbs.Given as goal
 
 abbrev pub invariant-loop-step : goal.invariant-loop-step
-invariant-loop-step l = climbs (entries_view l.self.dirs) (32 - l.-step) l.at ≡ climbs (entries_view l.self.dirs) 32 l.dir
+invariant-loop-step l = climbs (entries_view l.self.dirs) (32 - l._step) l.at ≡ climbs (entries_view l.self.dirs) 32 l.dir

@@ -4,7 +4,7 @@ use Rattle.model.specs.Tables.{Entry, live_dir, climbs}
 use Rattle.tables.specs.Views.{entries_view}
 use Rattle.tables.proofs.Scans.{each-passed, each_failed}
 use Rattle.tables.proofs.types.Tables.dirs_climb.Goals as goal
-use Rattle.tables.proofs.types.Tables.dirs_climb.Goals.{else-is-live-dir-via-then-is-live-dir+else-not-climbs as climbing, else-is-live-dir-via-else-is-live-dir as free}
+use Rattle.tables.proofs.types.Tables.dirs_climb.Goals.{else-is_live_dir-via-then-is_live_dir+else-not-climbs as climbing, else-is_live_dir-via-else-is_live_dir as free}
 
 -- d is free, or its parents lead to the root
 abbrev rooted : List Entry → ℕ → Bool
@@ -16,16 +16,16 @@ loop-dir-init c = below_none (λ k. rooted (entries_view c.args.self.now.dirs) k
 pub returns-then-not-climbs : goal.returns-then-not-climbs
 returns-then-not-climbs c =
     let ds = entries_view c.args.self.now.dirs in
-    each_failed 32 (rooted ds) c.loop-dir.dir c.loop-dir-test.true (sym (ap₂ (λ a b. not a || b) c.if-is-live-dir.ensures c.if-not-climbs.ensures))
+    each_failed 32 (rooted ds) c.loop-dir.dir c.loop-dir-test.true (sym (ap₂ (λ a b. not a || b) c.if-is_live_dir.ensures c.if-not-climbs.ensures))
 
 pub loop-dir-preserved : goal.loop-dir-preserved
 loop-dir-preserved c =
     let ds = entries_view c.args.self.now.dirs in
     let d = c.loop-dir.dir in
     let here : rooted ds d ≡ true =
-    elim c.else-is-live-dir.branch [
+    elim c.else-is_live_dir.branch [
       | climbing w ↦ or_right (not (live_dir ds d)) (climbs ds 32 d) (sym w.if-not-climbs.ensures)
-      | free w ↦ or_left (not (live_dir ds d)) (climbs ds 32 d) (sym (ap not w.if-is-live-dir.ensures))
+      | free w ↦ or_left (not (live_dir ds d)) (climbs ds 32 d) (sym (ap not w.if-is_live_dir.ensures))
     ] in
     below_more (λ k. rooted ds k ≡ true) d c.loop-dir.invariant here
 

@@ -16,10 +16,10 @@ pub loop-entry-init : goal.loop-entry-init
 loop-entry-init c = refl
 
 pub loop-entry-preserved : goal.loop-entry-preserved
-loop-entry-preserved c = let ds = c.args.self.now.dirs in passed (rest ds) (head ds) (λ e es. refl) c.args.entries.now c.loop-entry.entry-index c.entry-item.result c.loop-entry-test.true c.entry-item.is c.if-not-is-proper-entry.ensures c.loop-entry.invariant
+loop-entry-preserved c = let ds = c.args.self.now.dirs in passed (rest ds) (head ds) (λ e es. refl) c.args.entries.now c.loop-entry.entry-index c.entry-item.result c.loop-entry-test.true c.entry-item.is c.if-not-is_proper_entry.ensures c.loop-entry.invariant
 
-pub returns-then-not-is-proper-entry : goal.returns-then-not-is-proper-entry
-returns-then-not-is-proper-entry c = let ds = c.args.self.now.dirs in failed (rest ds) (head ds) (λ e es. refl) c.args.entries.now c.loop-entry.entry-index c.entry-item.result c.loop-entry-test.true c.entry-item.is c.if-not-is-proper-entry.ensures c.loop-entry.invariant
+pub returns-then-not-is_proper_entry : goal.returns-then-not-is_proper_entry
+returns-then-not-is_proper_entry c = let ds = c.args.self.now.dirs in failed (rest ds) (head ds) (λ e es. refl) c.args.entries.now c.loop-entry.entry-index c.entry-item.result c.loop-entry-test.true c.entry-item.is c.if-not-is_proper_entry.ensures c.loop-entry.invariant
 
 pub returns : goal.returns
 returns c = let ds = c.args.self.now.dirs in ended (rest ds) (head ds) (λ e es. refl) c.args.entries.now c.loop-entry.entry-index c.loop-entry-test.false c.loop-entry.invariant

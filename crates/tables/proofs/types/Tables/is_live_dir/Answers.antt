@@ -9,6 +9,6 @@ pub returns : goal.returns
 returns c =
     let ds = c.args.self.now.dirs in
     let d = c.args.dir in
-    c.is-live.ensures
+    c.is_live.ensures
     ∙ ap live (sym (get_or-map entry_view ds d c.index-self-i.result no_entry (omega arith)))
     ∙ ap (λ b. b && live (get_or (entries_view ds) d no_entry)) (sym (lt-ltb d 32 (omega arith)))

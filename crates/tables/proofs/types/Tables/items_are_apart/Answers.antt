@@ -6,7 +6,7 @@ use Rattle.tables.specs.Views.{entry_view, entries_view}
 use Rattle.tables.proofs.Bools.{both_pass, first_fails, second_fails}
 use Rattle.tables.proofs.Scans.{passed, failed, ended}
 use Rattle.tables.proofs.types.Tables.items_are_apart.Goals as goal
-use Rattle.tables.proofs.types.Tables.items_are_apart.Goals.{then-not-is-apart-from-via-then-not-is-apart-from as by-dirs, then-not-is-apart-from-via-else-not-is-apart-from+then-not-is-apart-from-2 as by-files}
+use Rattle.tables.proofs.types.Tables.items_are_apart.Goals.{then-not-is_apart_from-via-then-not-is_apart_from as by-dirs, then-not-is_apart_from-via-else-not-is_apart_from+then-not-is_apart_from-2 as by-files}
 
 -- `&ds[i..]` of the 32
 tail : (ds : List Entry) (n i : ℕ) → length ds ≡ n → take (n - i) (drop i ds) ≡ drop i ds
@@ -34,26 +34,26 @@ loop-i-preserved c =
     let ds = c.args.self.now.dirs in
     let fs = c.args.self.now.files in
     let i = c.loop-i.i in
-    let d = get_or ds i c.dir_item.result in
-    let p : true ≡ front d (take (32 - (i + 1)) (drop (i + 1) ds)) = c.if-not-is-apart-from.ensures in
-    let q : true ≡ front d fs = c.if-not-is-apart-from-2.ensures in
-    passed (rest fs) (head fs) (λ d ds. refl) ds i d (omega arith) (ap (λ x. get_or ds i x) c.dir_item.is)
+    let d = get_or ds i c.dir-item.result in
+    let p : true ≡ front d (take (32 - (i + 1)) (drop (i + 1) ds)) = c.if-not-is_apart_from.ensures in
+    let q : true ≡ front d fs = c.if-not-is_apart_from-2.ensures in
+    passed (rest fs) (head fs) (λ d ds. refl) ds i d (omega arith) (ap (λ x. get_or ds i x) c.dir-item.is)
     (both_pass (apart d) (entries_view (drop (i + 1) ds)) (entries_view fs) (p ∙ ap (front d) (tail ds 32 (i + 1) c.args.self.now.directed)) q)
     c.loop-i.invariant
 
-pub returns-then-not-is-apart-from : goal.returns-then-not-is-apart-from
-returns-then-not-is-apart-from c =
+pub returns-then-not-is_apart_from : goal.returns-then-not-is_apart_from
+returns-then-not-is_apart_from c =
     let ds = c.args.self.now.dirs in
     let fs = c.args.self.now.files in
     let i = c.loop-i.i in
     let d = get_or ds i c.dir_item.result in
     let behind = tail ds 32 (i + 1) c.args.self.now.directed in
     let fails : false ≡ head fs d (drop (i + 1) ds) =
-    elim c.then-not-is-apart-from.branch [
-      | by-dirs w ↦ let p : false ≡ front d (take (32 - (i + 1)) (drop (i + 1) ds)) = w.if-not-is-apart-from.ensures in first_fails (apart d) (entries_view (drop (i + 1) ds)) (entries_view fs) (p ∙ ap (front d) behind)
-      | by-files w ↦ let p : true ≡ front d (take (32 - (i + 1)) (drop (i + 1) ds)) = w.if-not-is-apart-from.ensures in second_fails (apart d) (entries_view (drop (i + 1) ds)) (entries_view fs) (p ∙ ap (front d) behind) w.if-not-is-apart-from-2.ensures
+    elim c.then-not-is_apart_from.branch [
+      | by-dirs w ↦ let p : false ≡ front d (take (32 - (i + 1)) (drop (i + 1) ds)) = w.if-not-is_apart_from.ensures in first_fails (apart d) (entries_view (drop (i + 1) ds)) (entries_view fs) (p ∙ ap (front d) behind)
+      | by-files w ↦ let p : true ≡ front d (take (32 - (i + 1)) (drop (i + 1) ds)) = w.if-not-is_apart_from.ensures in second_fails (apart d) (entries_view (drop (i + 1) ds)) (entries_view fs) (p ∙ ap (front d) behind) w.if-not-is_apart_from-2.ensures
     ] in
     failed (rest fs) (head fs) (λ d ds. refl) ds i d (omega arith) (ap (λ x. get_or ds i x) c.dir_item.is) fails c.loop-i.invariant
 
 pub returns : goal.returns
-returns c = let fs = c.args.self.now.files in c.are-apart.ensures ∙ ended (rest fs) (head fs) (λ d ds. refl) c.args.self.now.dirs c.loop-i.i (omega arith) c.loop-i.invariant
+returns c = let fs = c.args.self.now.files in c.are_apart.ensures ∙ ended (rest fs) (head fs) (λ d ds. refl) c.args.self.now.dirs c.loop-i.i (omega arith) c.loop-i.invariant

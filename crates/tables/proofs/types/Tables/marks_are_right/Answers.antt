@@ -28,19 +28,19 @@ pub returns-then-ne : goal.returns-then-ne
 returns-then-ne c =
     let t = c.args.self.now in
     let s = c.loop-sector.sector in
-    let due = c.due-mark.result.0 in
+    let due = c.due_mark.result.0 in
     let h = c.if-ne.ensures in
     let differ = ne_eqb (held t s) due (λ e. both_ways h.0 (not-true h.0 (sym h.2)) (h.1.1 e)) in
-    each_failed 512 (right c.args.dead.now (view t)) s c.loop-sector-test.true (compared c.args.dead.now c.args.claimed.now t c.requires s (omega arith) due c.due-mark.ensures ∙ differ)
+    each_failed 512 (right c.args.dead.now (view t)) s c.loop-sector-test.true (compared c.args.dead.now c.args.claimed.now t c.requires s (omega arith) due c.due_mark.ensures ∙ differ)
 
 pub loop-sector-preserved : goal.loop-sector-preserved
 loop-sector-preserved c =
     let t = c.args.self.now in
     let s = c.loop-sector.sector in
-    let due = c.due-mark.result.0 in
+    let due = c.due_mark.result.0 in
     let h = c.if-ne.ensures in
     let agree = eq-eqb (held t s) due (h.1.0 (not-false h.0 (sym h.2))) in
-    below_more (λ k. right c.args.dead.now (view t) k ≡ true) s c.loop-sector.invariant (compared c.args.dead.now c.args.claimed.now t c.requires s (omega arith) due c.due-mark.ensures ∙ agree)
+    below_more (λ k. right c.args.dead.now (view t) k ≡ true) s c.loop-sector.invariant (compared c.args.dead.now c.args.claimed.now t c.requires s (omega arith) due c.due_mark.ensures ∙ agree)
 
 pub returns : goal.returns
 returns c = each-passed 512 (right c.args.dead.now (view c.args.self.now)) (λ k l. c.loop-sector.invariant k (le_trans l c.loop-sector-test.false))

@@ -10,12 +10,12 @@ with-files t fs = record { marks = t.marks; dirs = t.dirs; files = fs; rows = t.
 
 pub returns-then-i-lt-ENTRIES : goal.returns-then-i-lt-ENTRIES
 returns-then-i-lt-ENTRIES c =
-    let t = c.mark-row.new.self in
+    let t = c.mark_row.new.self in
     ap (with-files (view t)) (freed-at t.files c.args.number c.index-self-i.result _ (let f = t.filed in let l = c.if-i-lt-ENTRIES.true in omega arith) refl)
-    ∙ ap (λ (u : Model). with-files u (freed u.files c.args.number)) c.mark-row.ensures
+    ∙ ap (λ (u : Model). with-files u (freed u.files c.args.number)) c.mark_row.ensures
 
 pub returns-else-i-lt-ENTRIES : goal.returns-else-i-lt-ENTRIES
 returns-else-i-lt-ENTRIES c =
-    let t = c.mark-row.new.self in
+    let t = c.mark_row.new.self in
     sym (ap (with-files (view t)) (freed-past t.files c.args.number (let f = t.filed in let l = c.if-i-lt-ENTRIES.false in omega arith)))
-    ∙ ap (λ (u : Model). with-files u (freed u.files c.args.number)) c.mark-row.ensures
+    ∙ ap (λ (u : Model). with-files u (freed u.files c.args.number)) c.mark_row.ensures

@@ -39,8 +39,8 @@ long-buffer t i d p b h l = front-passed (there file t d p) (check (ltb (length 
 abbrev count : Image → Option Model → ℕ → List ℕ → ℕ
 count i o d p = of_tables (on o i) 0 (λ t. length (places t d p))
 
-pub returns-in-err-number : goal.returns-in-err-number
-returns-in-err-number g c =
+pub returns-in_err-number : goal.returns-in_err-number
+returns-in_err-number g c =
     let i = g.S.Store.image c.args.self.now.store in
     let o = kept_view c.args.self.now.tables in
     let t = view c.in-Some.kept.tables in
@@ -48,14 +48,14 @@ returns-in-err-number g c =
     let d = c.args.start in
     let p = c.args.path.now in
     let b = c.args.buffer.now in
-    let e = c.in-err-number.field-0.0 in
-    let refuses : picked (checks t i (read d p b)) ≡ Some e = front_stopped (there file t d p) (check (ltb (length b) (512 * length (places t d p))) size ∷ []) e c.in-err-number.ensures in
-    let x = err_from_is_err_and c.from-residual.result c.from-residual.ensures.1 in
-    record { acts = refused i o t is (read d p b) (count i o d p) e c.from-residual.result refuses (x.1 ∙ ap Err x.2); buffer = left_buffer i o t is d p b e refuses }
+    let e = c.in_err-number.field-0.0 in
+    let refuses : picked (checks t i (read d p b)) ≡ Some e = front_stopped (there file t d p) (check (ltb (length b) (512 * length (places t d p))) size ∷ []) e c.in_err-number.ensures in
+    let x = err_from_is_err_and c.from_residual.result c.from_residual.ensures.1 in
+    record { acts = refused i o t is (read d p b) (count i o d p) e c.from_residual.result refuses (x.1 ∙ ap Err x.2); buffer = left_buffer i o t is d p b e refuses }
 
-pub overflow-mul-count : goal.overflow-mul-count
-overflow-mul-count g c =
-    let r = get_or c.tables.result.now.rows c.in-ok-number.number c.index-tables-number.result in
+pub overflow_mul-count : goal.overflow_mul-count
+overflow_mul-count g c =
+    let r = get_or c.tables.result.now.rows c.in_ok-number.number c.index-tables-number.result in
     let short = used-short r.places in
     let long = r.sized in
     let e = c.count-count.ensures in
@@ -71,14 +71,14 @@ returns-then-buffer-count g c =
     let d = c.args.start in
     let p = c.args.path.now in
     let b = c.args.buffer.now in
-    let there_is = c.in-ok-number.ensures in
-    let same = row_is k c.tables.result.now d p c.in-ok-number.number c.index-tables-number.result c.tables.ensures there_is.1.1 there_is.1.0 in
+    let there_is = c.in_ok-number.ensures in
+    let same = row_is k c.tables.result.now d p c.in_ok-number.number c.index-tables-number.result c.tables.ensures there_is.1.1 there_is.1.0 in
     let counted = c.count-count.ensures ∙ ap length same in
     let refuses = short-buffer t i d p b there_is.0 (let l = c.if-buffer-count.true in omega arith) in
     record { acts = refused i o t is (read d p b) (count i o d p) size (Err size) refuses refl; buffer = left_buffer i o t is d p b size refuses }
 
-pub returns-in-err-read-row : goal.returns-in-err-read-row
-returns-in-err-read-row g c =
+pub returns-in_err-read_row : goal.returns-in_err-read_row
+returns-in_err-read_row g c =
     let i = g.S.Store.image c.args.self.now.store in
     let o = kept_view c.args.self.now.tables in
     let k = c.in-Some.kept.tables in
@@ -87,15 +87,15 @@ returns-in-err-read-row g c =
     let d = c.args.start in
     let p = c.args.path.now in
     let b = c.args.buffer.now in
-    let there_is = c.in-ok-number.ensures in
-    let same = row_is k c.tables.result.now d p c.in-ok-number.number c.index-tables-number.result c.tables.ensures there_is.1.1 there_is.1.0 in
+    let there_is = c.in_ok-number.ensures in
+    let same = row_is k c.tables.result.now d p c.in_ok-number.number c.index-tables-number.result c.tables.ensures there_is.1.1 there_is.1.0 in
     let counted = c.count-count.ensures ∙ ap length same in
     let passed = long-buffer t i d p b there_is.0 (let l = c.if-buffer-count.false in omega arith) in
-    let filled = subst (λ (ss : List ℕ). Filled i ss b c.read-row.result c.read-row.new.buffer) same c.read-row.ensures.filled in
-    let x = err_from_is_err_and c.from-residual-in-err-read-row.result c.from-residual-in-err-read-row.ensures.1 in
+    let filled = subst (λ (ss : List ℕ). Filled i ss b c.read_row.result c.read_row.new.buffer) same c.read_row.ensures.filled in
+    let x = err_from_is_err_and c.from_residual-in_err-read_row.result c.from_residual-in_err-read_row.ensures.1 in
     record {
-      acts = unread i o t is (read d p b) (count i o d p) refl refl passed c.read-row.result filled.answer (g.S.Store.image c.read-row.new.store) c.read-row.ensures.image c.from-residual-in-err-read-row.result c.in-err-read-row.field-0.0 c.in-err-read-row.was (x.1 ∙ ap Err x.2);
-      buffer = filled-buffer i o t is d p b c.read-row.new.buffer passed filled.buffer;
+      acts = unread i o t is (read d p b) (count i o d p) refl refl passed c.read_row.result filled.answer (g.S.Store.image c.read_row.new.store) c.read_row.ensures.image c.from_residual-in_err-read_row.result c.in_err-read_row.field-0.0 c.in_err-read_row.was (x.1 ∙ ap Err x.2);
+      buffer = filled-buffer i o t is d p b c.read_row.new.buffer passed filled.buffer;
     }
 
 pub returns : goal.returns
@@ -108,12 +108,12 @@ returns g c =
     let d = c.args.start in
     let p = c.args.path.now in
     let b = c.args.buffer.now in
-    let there_is = c.in-ok-number.ensures in
-    let same = row_is k c.tables.result.now d p c.in-ok-number.number c.index-tables-number.result c.tables.ensures there_is.1.1 there_is.1.0 in
+    let there_is = c.in_ok-number.ensures in
+    let same = row_is k c.tables.result.now d p c.in_ok-number.number c.index-tables-number.result c.tables.ensures there_is.1.1 there_is.1.0 in
     let counted = c.count-count.ensures ∙ ap length same in
     let passed = long-buffer t i d p b there_is.0 (let l = c.if-buffer-count.false in omega arith) in
-    let filled = subst (λ (ss : List ℕ). Filled i ss b c.read-row.result c.read-row.new.buffer) same c.read-row.ensures.filled in
+    let filled = subst (λ (ss : List ℕ). Filled i ss b c.read_row.result c.read_row.new.buffer) same c.read_row.ensures.filled in
     record {
-      acts = looked i o t is (read d p b) (count i o d p) refl refl passed c.read-row.result filled.answer (g.S.Store.image c.read-row.new.store) c.read-row.ensures.image (Ok c.count-count.result) c.in-ok-read-row.was (ap Ok (counted ∙ sym (ap (λ (y : Option Model). count i y d p) is)));
-      buffer = filled-buffer i o t is d p b c.read-row.new.buffer passed filled.buffer;
+      acts = looked i o t is (read d p b) (count i o d p) refl refl passed c.read_row.result filled.answer (g.S.Store.image c.read_row.new.store) c.read_row.ensures.image (Ok c.count-count.result) c.in_ok-read_row.was (ap Ok (counted ∙ sym (ap (λ (y : Option Model). count i y d p) is)));
+      buffer = filled-buffer i o t is d p b c.read_row.new.buffer passed filled.buffer;
     }
