@@ -13,7 +13,7 @@ use Rattle.store.specs.Laid.{length_fit, whole_laid, inside_laid, look_laid, put
 use Rattle.store.specs.Stretches.{count_most, room_for, length_stretch, Copied}
 
 -- what `contains` answers
-pub contains_member : (s : ℕ) (xs : List ℕ) (r : Bool) → IsAnyAnswer (λ y t. Decides t (y ≡ s)) xs r → r ≡ member s xs
+pub contains_member : (s : ℕ) (xs : List ℕ) (r : Bool) → IsAnyAnswer (λ y t. nat_eq y s ≡ t) xs r → r ≡ member s xs
 contains_member s xs r h =
     same_from_decides r (member s xs) (contains_decides nat_eq Decides-eqb xs s r h) (Decides-by_or (nat_eq s) (λ x. x ≡ s) (member s) (λ x. Decides-like (s == x) sym sym (Decides-eqb s x)) refl (λ _ _. refl) xs)
 

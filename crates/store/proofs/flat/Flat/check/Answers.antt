@@ -11,7 +11,7 @@ listed c =
     ∙ sym (contains_member c.args.sector c.deref.result.now c.contains.result c.contains.ensures.cases)
 
 inside : (c : After-contains) → c.args.sector < length (flat_of c.args.self.now)
-inside c = subst (λ n. c.args.sector < n) c.size.ensures c.if-sector_size.false
+inside c = subst (λ n. c.args.sector < n) c.size.ensures c.if-sector-size.false
 
 pub returns-then-contains : goal.returns-then-contains
 returns-then-contains c =

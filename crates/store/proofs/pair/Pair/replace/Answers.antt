@@ -34,12 +34,12 @@ copy_in-requires-else-sector-eq0 c =
 pub invariant_of-self : goal.invariant_of-self
 invariant_of-self c =
     let s = c.args.self.now in
-    (s.sized ∙ sym (ap length (written_even (goal.at.invariant_of-self c).After-copy_in) ∙ length_put (pair_of s) c.args.sector c.args.bytes.now), tt)
+    record { sized = s.sized ∙ sym (ap length (written_even (goal.at.invariant_of-self c).After-copy_in) ∙ length_put (pair_of s) c.args.sector c.args.bytes.now) }
 
 pub invariant_of-self-else-sector-eq0 : goal.invariant_of-self-else-sector-eq0
 invariant_of-self-else-sector-eq0 c =
     let s = c.args.self.now in
-    (s.sized ∙ sym (ap length (written_odd (goal.at.invariant_of-self-else-sector-eq0 c).After-copy_in-else-sector-eq0) ∙ length_put (pair_of s) c.args.sector c.args.bytes.now), tt)
+    record { sized = s.sized ∙ sym (ap length (written_odd (goal.at.invariant_of-self-else-sector-eq0 c).After-copy_in-else-sector-eq0) ∙ length_put (pair_of s) c.args.sector c.args.bytes.now) }
 
 pub returns-then-sector-eq0 : goal.returns-then-sector-eq0
 returns-then-sector-eq0 c =

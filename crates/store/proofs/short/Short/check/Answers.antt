@@ -4,8 +4,8 @@ use Rattle.store.proofs.short.Short.check.Goals as goal
 
 pub returns-then-lives : goal.returns-then-lives
 returns-then-lives c =
-    sym (short_live (vec_items c.args.self.now.buffer) c.args.sector (subst (λ n. c.args.sector < n) c.size.ensures c.if-sector_size.false) (sym c.lives.ensures ∙ c.if-lives.true))
+    sym (short_live (vec_items c.args.self.now.buffer) c.args.sector (subst (λ n. c.args.sector < n) c.size.ensures c.if-sector-size.false) (sym c.lives.ensures ∙ c.if-lives.true))
 
 pub returns-else-lives : goal.returns-else-lives
 returns-else-lives c =
-    ap Err c.dead_here.ensures ∙ sym (short_dead (vec_items c.args.self.now.buffer) c.args.sector (subst (λ n. c.args.sector < n) c.size.ensures c.if-sector_size.false) (sym c.lives.ensures ∙ c.if-lives.false))
+    ap Err c.dead_here.ensures ∙ sym (short_dead (vec_items c.args.self.now.buffer) c.args.sector (subst (λ n. c.args.sector < n) c.size.ensures c.if-sector-size.false) (sym c.lives.ensures ∙ c.if-lives.false))

@@ -23,7 +23,7 @@ written c =
 pub invariant_of-self : goal.invariant_of-self
 invariant_of-self c =
     let s = c.args.self.now in
-    (s.sized ∙ sym (ap length (written (goal.at.invariant_of-self c).After-copy_in) ∙ length_put (short_of s) c.args.sector c.args.bytes.now), tt)
+    record { sized = s.sized ∙ sym (ap length (written (goal.at.invariant_of-self c).After-copy_in) ∙ length_put (short_of s) c.args.sector c.args.bytes.now) }
 
 pub returns : goal.returns
 returns c = written (goal.at.returns c).After-copy_in
