@@ -47,7 +47,7 @@ loop-i-preserved c =
           subst (λ d. Claims (alive_by dead) (view t) d (i + 1)) (sym w.claimed-is)
           (row_claims (alive_by dead) (view t) c.loop-i.claimed i c.loop-i.invariant (in_files t i c.loop-i-test.true) (in_rows t i c.loop-i-test.true) (entry_view e) r.places
           (file_at t i c.index-self-i.result c.loop-i-test.true) (row_at t i w.index-self-i-then-is_live.result c.loop-i-test.true)
-          (sym w.if-is_live.ensures) w.if-not-claim.ensures.answer w.claim.last.claimed w.claim.array_long (w.if-not-claim.ensures.after refl))
+          (sym w.if-is_live.ensures) w.if-not-claim.ensures.answer w.claim.new.claimed w.claim.array_long (w.if-not-claim.ensures.after refl))
       | free w ↦
           subst (λ d. Claims (alive_by dead) (view t) d (i + 1)) (sym w.claimed-is)
           (free_passes (alive_by dead) (view t) c.loop-i.claimed i c.loop-i.invariant (in_files t i c.loop-i-test.true) (in_rows t i c.loop-i-test.true) (entry_view e) (get_or (view t).rows i [])

@@ -13,7 +13,7 @@ pub returns-then-at : goal.returns-then-at
 returns-then-at c = arrives (entries_view c.args.self.now.dirs) 32 c.args.dir c.loop-step._step c.loop-step.at c.loop-step.invariant c.if-at.true
 
 pub returns-then-not-is_live_dir : goal.returns-then-not-is_live_dir
-returns-then-not-is_live_dir c = strays (entries_view c.args.self.now.dirs) 32 c.args.dir c.loop-step.-step c.loop-step.at c.loop-step.invariant c.loop-step-test.true c.if-at.false c.if-not-is_live_dir.ensures
+returns-then-not-is_live_dir c = strays (entries_view c.args.self.now.dirs) 32 c.args.dir c.loop-step._step c.loop-step.at c.loop-step.invariant c.loop-step-test.true c.if-at.false c.if-not-is_live_dir.ensures
 
 pub loop-step-preserved : goal.loop-step-preserved
 loop-step-preserved c =

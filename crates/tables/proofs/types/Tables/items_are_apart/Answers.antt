@@ -46,14 +46,14 @@ returns-then-not-is_apart_from c =
     let ds = c.args.self.now.dirs in
     let fs = c.args.self.now.files in
     let i = c.loop-i.i in
-    let d = get_or ds i c.dir_item.result in
+    let d = get_or ds i c.dir-item.result in
     let behind = tail ds 32 (i + 1) c.args.self.now.directed in
     let fails : false ≡ head fs d (drop (i + 1) ds) =
     elim c.then-not-is_apart_from.branch [
       | by-dirs w ↦ let p : false ≡ front d (take (32 - (i + 1)) (drop (i + 1) ds)) = w.if-not-is_apart_from.ensures in first_fails (apart d) (entries_view (drop (i + 1) ds)) (entries_view fs) (p ∙ ap (front d) behind)
       | by-files w ↦ let p : true ≡ front d (take (32 - (i + 1)) (drop (i + 1) ds)) = w.if-not-is_apart_from.ensures in second_fails (apart d) (entries_view (drop (i + 1) ds)) (entries_view fs) (p ∙ ap (front d) behind) w.if-not-is_apart_from-2.ensures
     ] in
-    failed (rest fs) (head fs) (λ d ds. refl) ds i d (omega arith) (ap (λ x. get_or ds i x) c.dir_item.is) fails c.loop-i.invariant
+    failed (rest fs) (head fs) (λ d ds. refl) ds i d (omega arith) (ap (λ x. get_or ds i x) c.dir-item.is) fails c.loop-i.invariant
 
 pub returns : goal.returns
 returns c = let fs = c.args.self.now.files in c.are_apart.ensures ∙ ended (rest fs) (head fs) (λ d ds. refl) c.args.self.now.dirs c.loop-i.i (omega arith) c.loop-i.invariant

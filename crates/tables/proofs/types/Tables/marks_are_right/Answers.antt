@@ -1,6 +1,6 @@
-use Rattle.std.proofs.Common.{◌≡◌, ℕ, ◌<◌, Bool, true, eqb, List, length, get_or, sym, ◌∙◌, ap₂, le_trans, arith, below_none, below_more}
+use Rattle.std.proofs.Common.{◌≡◌, ℕ, ◌<◌, Bool, true, false, eqb, List, length, get_or, sym, ◌∙◌, ap₂, le_trans, arith, below_none, below_more}
 use Rattle.std.proofs.lemmas.List.{get_or-map}
-use Rattle.std.proofs.lemmas.Bool.{both_ways, eq-eqb, ne_eqb, not-false, not-true}
+use Rattle.std.proofs.lemmas.Bool.{not-false, not-true}
 use Rattle.model.specs.Tables.{Tables as Model, mark_of}
 use Rattle.tables.specs.declared.types.Mark.{Mark}
 use Rattle.tables.specs.declared.types.Tables.{Tables}
@@ -29,8 +29,7 @@ returns-then-ne c =
     let t = c.args.self.now in
     let s = c.loop-sector.sector in
     let due = c.due_mark.result.0 in
-    let h = c.if-ne.ensures in
-    let differ = ne_eqb (held t s) due (λ e. both_ways h.0 (not-true h.0 (sym h.2)) (h.1.1 e)) in
+    let differ : eqb (held t s) due ≡ false = not-true (eqb (held t s) due) (sym c.if-ne.ensures) in
     each_failed 512 (right c.args.dead.now (view t)) s c.loop-sector-test.true (compared c.args.dead.now c.args.claimed.now t c.requires s (omega arith) due c.due_mark.ensures ∙ differ)
 
 pub loop-sector-preserved : goal.loop-sector-preserved
@@ -38,8 +37,7 @@ loop-sector-preserved c =
     let t = c.args.self.now in
     let s = c.loop-sector.sector in
     let due = c.due_mark.result.0 in
-    let h = c.if-ne.ensures in
-    let agree = eq-eqb (held t s) due (h.1.0 (not-false h.0 (sym h.2))) in
+    let agree : eqb (held t s) due ≡ true = not-false (eqb (held t s) due) (sym c.if-ne.ensures) in
     below_more (λ k. right c.args.dead.now (view t) k ≡ true) s c.loop-sector.invariant (compared c.args.dead.now c.args.claimed.now t c.requires s (omega arith) due c.due_mark.ensures ∙ agree)
 
 pub returns : goal.returns
