@@ -1,14 +1,14 @@
 -- The sectors that `read` and `book` read: none of them meets a fault, and their bytes are those of the tree.
-use Rattle.std.proofs.Common.{◌≡◌, ℕ, zero, suc, ◌*◌, ◌<◌, ◌≤◌, Bool, true, false, cond, not, ◌&&◌, ◌||◌, eqb, ltb, leb, List, [], ◌∷◌, ◌++◌, map, length, get_or, drop, Some, None, Ok, Err, Option, Result, sym, refl, ap, ◌∙◌, subst, ap₂, arith}
+use Rattle.std.proofs.Common.{◌≡◌, ℕ, zero, suc, ◌<◌, Bool, true, false, cond, not, ◌&&◌, ◌||◌, eqb, leb, List, [], ◌∷◌, ◌++◌, map, length, get_or, drop, Some, None, Ok, Err, Result, sym, refl, ap, ◌∙◌, subst, ap₂, arith}
 use Rattle.std.proofs.lemmas.List.{map-append, append_assoc}
 use Rattle.std.proofs.lemmas.Bool.{and_parts, and_from}
-use Rattle.model.specs.Image.{Image, Fault, look, is_ok, all, Readout, read_on, reads}
-use Rattle.model.specs.Refusals.{Check, check, picked, misspelt, start, lost, size, Call, read, book}
-use Rattle.model.specs.Names.{names, spelt, path_before}
+use Rattle.model.specs.Image.{Image, Fault, look, is_ok, all, read_on, reads}
+use Rattle.model.specs.Refusals.{picked, misspelt, start, lost, read}
+use Rattle.model.specs.Names.{spelt, path_before}
 use Rattle.model.specs.Tables.{Tables, Entry, no_entry, live, used, row, live_places, alive, data_sector, proper_row, proper_rows, sound, marks_right, proper_entry, live_dir, climbs, each, unshared, distinct}
-use Rattle.model.specs.Tree.{Tree, Numbered, Kind, directory, file}
-use Rattle.model.specs.Book.{Line, lines_of, insert, sorted, contents, bodies, last}
-use Rattle.model.specs.Sound.{Shaped, Sound, Live}
+use Rattle.model.specs.Tree.{directory, file}
+use Rattle.model.specs.Book.{Line, lines_of, insert, sorted, contents, bodies}
+use Rattle.model.specs.Sound.{Shaped, Live}
 use Rattle.model.specs.Volume.{named, starts, is_file, number_of, item_path, bytes_or_blank, body, dir_items, file_items_by, tree_by, tree_of, book_sectors, checks}
 use Rattle.model.proofs.Common.Tests.{implied}
 use Rattle.model.proofs.Ready.{Ready}

@@ -1,14 +1,14 @@
 -- A search finds the lowest, a file gets the lowest free sectors, layout and reading undo each other, and the test of
 -- soundness is the five rules.
-use Rattle.std.proofs.Common.{◌≡◌, ℕ, zero, suc, ◌+◌, ◌-◌, ◌*◌, ◌/◌, ◌<◌, ◌≤◌, Bool, true, false, cond, not, ◌&&◌, eqb, ltb, leb, ◌⊎◌, ◌↔◌, List, [], ◌∷◌, ◌++◌, map, length, get_or, take, drop, Some, None, Ok, Err, Option, Result, sym, refl, ap, ◌∙◌, subst, ap₂, inl, inr, arith}
+use Rattle.std.proofs.Common.{◌≡◌, ℕ, zero, suc, ◌+◌, ◌*◌, ◌/◌, ◌<◌, ◌≤◌, Bool, true, false, cond, not, eqb, ltb, leb, List, [], ◌∷◌, ◌++◌, map, length, get_or, take, drop, Some, None, Ok, Err, Option, Result, sym, refl, ap, ◌∙◌, subst, ap₂, inl, inr, arith}
 use Rattle.std.proofs.lemmas.List.{take-append-drop, length-take-le, length-drop, get_or-take}
 use Rattle.std.proofs.lemmas.Bool.{and_parts, and_from, eqb-true, eqb-false, eq-eqb, leb-true, le-leb, ltb-false, le-ltb}
-use Rattle.model.specs.Image.{Image, Sector, bytes, dead, Fault, past_end_at, seen, look, is_ok, all, whole_sector, whole}
-use Rattle.model.specs.Refusals.{Refusal, small, unsound}
-use Rattle.model.specs.Tables.{Tables, Entry, no_entry, live, data_sector, parts, entry, entries, entries_bytes, rows_bytes, tables, load, root, climbs, sound}
-use Rattle.model.specs.Sound.{Shaped, Sound}
+use Rattle.model.specs.Image.{Image, Fault, look, is_ok, whole}
+use Rattle.model.specs.Refusals.{small, unsound}
+use Rattle.model.specs.Tables.{Tables, Entry, no_entry, live, parts, entry, entries_bytes, rows_bytes, tables, load, root, climbs, sound}
+use Rattle.model.specs.Sound.{Shaped}
 use Rattle.model.specs.Tree.{is_some, raised, first}
-use Rattle.model.specs.Volume.{row, free_from, free_sectors, room_for, given, inspection, loaded_refusal, bytes_or_blank}
+use Rattle.model.specs.Volume.{free_from, free_sectors, inspection, loaded_refusal, bytes_or_blank}
 use Rattle.model.specs.Meaning.{Lowest, FindsLowest, EntriesLowest, NumbersLowest, Free, Rising, LowestFree, SectorsLowest, LayoutUndone, SoundTold, WayUp, RootedTold, Carries, LetIn}
 use Rattle.model.proofs.Common.Searches.{first_some, first_none}
 use Rattle.model.proofs.Store.Bodies.{look-length}

@@ -1,17 +1,17 @@
 -- What holds after every list of calls on a volume that was newly formatted.
-use Rattle.std.specs.Prelude.{◌≡◌, ℕ, zero, suc, ◌+◌, ◌<◌, ◌≤◌, Bool, true, false, cond, not, ◌&&◌, ◌||◌, ◌↔◌, List, [], ◌∷◌, ◌++◌, map, length, take, Some, None, Ok, Err, Option, Result, slice_index, slice_index_or}
+use Rattle.std.specs.Prelude.{◌≡◌, ℕ, zero, suc, ◌+◌, Bool, true, false, cond, not, ◌&&◌, ◌↔◌, List, [], ◌∷◌, ◌++◌, take, Some, None, Ok, slice_index, slice_index_or}
 pub use Rattle.model.specs.Image.{whole_sector, whole, from_to}
-use Rattle.model.specs.Image.{Image, Fault, look, is_ok, Write, writes}
-use Rattle.model.specs.Refusals.{Refusal, small, dead, Call, opening, closing, find, read, write, mkdir, unlink, prune, move, next, book, picked}
-use Rattle.model.specs.Sizes.{sector_size, root, first_data, last_data, data_count, map_sector, dirs_sector, files_sector, rows_sector, least_sectors, mark_free, mark_used, mark_dead, blank}
+use Rattle.model.specs.Image.{Image, look, is_ok}
+use Rattle.model.specs.Refusals.{Call, opening, closing, find, read, write, mkdir, unlink, prune, move, next, book, picked}
+use Rattle.model.specs.Sizes.{root, first_data, data_count, mark_used}
 use Rattle.model.specs.Names.{Path}
-use Rattle.model.specs.Tables.{Tables, no_entry, live, used, load, data_sector, all, sound, alive, told_alive, consistent}
-use Rattle.model.specs.Tree.{Tree, Item, Numbered, Kind, bare, is_some}
+use Rattle.model.specs.Tables.{Tables, data_sector, sound, alive, told_alive, consistent}
+use Rattle.model.specs.Tree.{Tree, Numbered, Kind, bare, is_some}
 use Rattle.model.specs.History.{history, checks}
 use Rattle.model.specs.Sound.{NamesSector, Shaped}
 use Rattle.model.specs.Answers.{turned_away, find_answer, book_answer, book_buffer}
 pub use Rattle.model.specs.Volume.{blank_mark, format_writes, format_refusal, formatted}
-use Rattle.model.specs.Volume.{Volume, opened, named, after, refusal, tree_of, row, Kept, checks as table_checks, tables_after}
+use Rattle.model.specs.Volume.{Volume, opened, after, tree_of, Kept, checks as table_checks, tables_after}
 
 -- a store with no volume on it, or an open volume
 pub data Device : Type 0 where

@@ -1,12 +1,11 @@
 -- Theorems above the definitions, in the subject's words: what a search finds, which sectors a file gets, how the
 -- layout and its reading undo each other, and what the test of soundness tells.
-use Rattle.std.specs.Prelude.{◌≡◌, ℕ, ◌/◌, ◌<◌, ◌≤◌, Bool, true, false, not, ◌↔◌, List, [], ◌∷◌, length, get_or, Some, None, Ok, Option, Result, slice_index, slice_index_or}
+use Rattle.std.specs.Prelude.{◌≡◌, ℕ, ◌/◌, ◌<◌, ◌≤◌, Bool, true, false, not, ◌↔◌, List, [], ◌∷◌, length, get_or, Some, None, Ok, slice_index, slice_index_or}
 use Rattle.model.specs.Sizes.{sector_size, mark_free, least_sectors, entry_count, root}
-use Rattle.model.specs.Image.{Image, Fault, whole}
-use Rattle.model.specs.Refusals.{Refusal}
+use Rattle.model.specs.Image.{Image, whole}
 use Rattle.model.specs.Tables.{Tables, Entry, no_entry, live, data_sector, entries_bytes, rows_bytes, tables, load, climbs, sound}
 use Rattle.model.specs.Sound.{Shaped, Sound, Live}
-use Rattle.model.specs.Tree.{Item, Numbered, is_some, first}
+use Rattle.model.specs.Tree.{Numbered, is_some, first}
 use Rattle.model.specs.Volume.{free_sectors, room_for, given, inspection}
 
 -- the first that passes is the lowest ----------------------------------------------------------------------

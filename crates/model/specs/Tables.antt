@@ -1,10 +1,10 @@
 -- The four tables, how they lie in sectors, and the test whether they are sound.
-use Rattle.std.specs.Prelude.{ℕ, zero, suc, ◌+◌, ◌-◌, ◌*◌, Bool, true, false, cond, not, ◌&&◌, ◌||◌, List, [], ◌∷◌, ◌++◌, map, length, get_or, take, drop, replicate, Some, None, Ok, Err, Option, Result, ◌==◌, nat_eq, nat_le, nat_lt, slice_index, slice_index_or}
+use Rattle.std.specs.Prelude.{ℕ, zero, suc, Bool, true, false, cond, not, ◌&&◌, ◌||◌, List, [], ◌∷◌, ◌++◌, map, length, get_or, take, drop, Ok, Err, Result, ◌==◌, nat_eq, nat_le, nat_lt, slice_index, slice_index_or}
 pub use Rattle.model.specs.Image.{all}
-use Rattle.model.specs.Image.{Image, Sector, Fault, look, is_ok}
+use Rattle.model.specs.Image.{Image, Fault, look, is_ok}
 pub use Rattle.model.specs.Sizes.{root}
-use Rattle.model.specs.Sizes.{sector_size, first_data, last_data, data_count, map_sector, dirs_sector, files_sector, rows_sector, mark_free, mark_used, mark_dead, entry_count, entry_size, blank}
-use Rattle.model.specs.Names.{Name, same_name, proper_name, padded, all_proper}
+use Rattle.model.specs.Sizes.{sector_size, first_data, last_data, map_sector, dirs_sector, files_sector, rows_sector, mark_free, mark_used, mark_dead, entry_count, entry_size, blank}
+use Rattle.model.specs.Names.{Name, same_name, proper_name, padded}
 
 -- a directory or a file: the number of the directory that holds it, and fifteen bytes of name
 pub record Entry : Type 0 where

@@ -1,7 +1,7 @@
 -- One row's sectors marked, and one entry set free.
-use Rattle.std.proofs.Common.{◌≡◌, ℕ, ◌+◌, ◌<◌, ◌≤◌, List, [], ◌∷◌, map, length, get_or, drop, set, Some, sym, refl, ap, ◌∙◌, ap₂, arith}
+use Rattle.std.proofs.Common.{◌≡◌, ℕ, ◌+◌, ◌<◌, ◌≤◌, List, [], length, get_or, drop, set, Some, sym, ap, ◌∙◌, arith}
 use Rattle.std.proofs.lemmas.List.{at_drop_more, at_drop_all, get_or-map, get_or_past, length-map, map-set, set_past}
-use Rattle.model.specs.Tables.{Tables as Model, Entry as ModelEntry, no_entry, used, row}
+use Rattle.model.specs.Tables.{Tables as Model, Entry as ModelEntry, no_entry, used}
 use Rattle.model.specs.declared.types.Kind.{Kind}
 use Rattle.model.specs.declared.types.Kind.TheVariants.{Directory as directory, File as file}
 use Rattle.model.specs.Volume.{marked, freed, first_bytes, renamed}

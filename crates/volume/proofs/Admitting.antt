@@ -1,6 +1,5 @@
 -- Which stores are let in, and the volume that opening gives.
-use Rattle.std.proofs.Common.{◌≡◌, ℕ, Bool, true, false, cond, not, ltb, ◌↔◌, List, length, get_or, IsErrAnd, Some, None, Ok, Err, Option, Result, sym, refl, ap, ◌∙◌, subst, ap₂, arith, MatchResult}
-use Rattle.std.proofs.lemmas.Result.{err_from_is_err_and}
+use Rattle.std.proofs.Common.{◌≡◌, ℕ, Bool, true, false, cond, not, ltb, ◌↔◌, List, length, get_or, Some, None, Ok, Err, Option, Result, sym, refl, ap, ◌∙◌, subst, ap₂, arith}
 use Rattle.model.specs.declared.types.Fault.{Fault}
 use Rattle.model.specs.declared.types.Refusal.{Refusal}
 use Rattle.model.specs.declared.types.Refusal.TheVariants.{Small as small, Unsound as unsound, Dead as dead}
@@ -9,8 +8,8 @@ use Rattle.model.specs.Meaning.{Carries}
 use Rattle.model.specs.Tree.{is_some}
 use Rattle.model.proofs.Meaning.{let_in}
 use Rattle.model.specs.Answers.{answer, inspect_answer}
-use Rattle.model.specs.Tables.{Tables, load, alive, data_sector, sound_by, sound}
-use Rattle.model.specs.Volume.{Volume, format_refusal, inspection, loaded_refusal, kept, opened, Kept, InStep}
+use Rattle.model.specs.Tables.{Tables, load, alive, sound_by, sound}
+use Rattle.model.specs.Volume.{Volume, format_refusal, inspection, loaded_refusal, kept, opened, Kept}
 use Rattle.model.proofs.Consistent.{sound_alike}
 use Rattle.volume.specs.Blank.{Tells}
 

@@ -1,9 +1,8 @@
 -- The blank map, and what the four writes of format leave.
-use Rattle.std.proofs.Common.{◌≡◌, ℕ, zero, suc, ◌+◌, ◌<◌, ◌≤◌, Bool, true, false, cond, not, ◌&&◌, eqb, ltb, leb, List, [], ◌∷◌, length, get_or, set, sym, refl, ap, ◌∙◌, subst, ap₂, arith}
+use Rattle.std.proofs.Common.{◌≡◌, ℕ, zero, suc, ◌+◌, ◌<◌, ◌≤◌, Bool, true, false, cond, not, eqb, ltb, leb, List, [], ◌∷◌, length, get_or, set, sym, refl, ap, ◌∙◌, ap₂, arith}
 use Rattle.std.proofs.lemmas.List.{get_or-set_same, get_or-set_other}
 use Rattle.std.proofs.lemmas.Bool.{eqb-true, eqb-false, and_from, le-leb, ltb-false}
 use Rattle.model.specs.Image.{Image, look, is_ok, from_to}
-use Rattle.model.specs.Tables.{alive}
 use Rattle.model.specs.Volume.{blank_mark}
 use Rattle.volume.specs.Blank.{Tells, blank_byte}
 

@@ -1,10 +1,10 @@
 -- The writes of format meet no fault, and leave what the definition says.
-use Rattle.std.proofs.Common.{◌≡◌, ℕ, Bool, true, false, List, [], ◌∷◌, replicate, Some, None, Ok, Err, Option, Result, sym, refl, ap, ◌∙◌, subst, ap₂, arith}
+use Rattle.std.proofs.Common.{◌≡◌, ℕ, true, List, [], ◌∷◌, Some, None, Ok, Err, Option, Result, sym, ap, ◌∙◌, subst, arith}
 use Rattle.model.specs.Image.{Image, whole, look, is_ok, access, done_or_fault, put, Write, writes, from_to}
 use Rattle.model.specs.declared.types.Fault.{Fault}
 use Rattle.model.specs.declared.types.Refusal.{Refusal}
 use Rattle.model.specs.Tables.{Tables, load}
-use Rattle.model.specs.Volume.{blank_mark, blank_sector, format_writes, format_refusal, formatted, after_format}
+use Rattle.model.specs.Volume.{blank_mark, blank_sector, format_refusal, formatted, after_format}
 use Rattle.model.specs.Answers.{answer, format_answer}
 use Rattle.model.proofs.Calls.{format_ready}
 use Rattle.model.proofs.Trees.{format_bare}

@@ -1,11 +1,11 @@
 -- What reading the table sectors and probing the data sectors gives.
-use Rattle.std.proofs.Common.{◌≡◌, ℕ, ◌+◌, ◌<◌, ◌≤◌, Bool, true, false, not, eqb, List, length, get_or, set, is_err, Ok, Err, Result, sym, refl, ap, ◌∙◌, subst, arith}
+use Rattle.std.proofs.Common.{◌≡◌, ℕ, ◌+◌, ◌<◌, ◌≤◌, Bool, true, false, not, eqb, List, length, get_or, set, is_err, Ok, Err, Result, sym, refl, ap, ◌∙◌, arith}
 use Rattle.std.proofs.lemmas.List.{get_or-set_same, get_or-set_other}
 use Rattle.std.proofs.lemmas.Bool.{eqb-true, eqb-false}
 use Rattle.model.specs.Image.{Image, look, is_ok, done_or_fault, access}
 use Rattle.model.specs.declared.types.Fault.{Fault}
-use Rattle.model.specs.Tables.{Tables, tables, load, alive, data_sector}
-use Rattle.model.proofs.Tables.Loads.{Holds, holds-load}
+use Rattle.model.specs.Tables.{Tables, tables, load, alive}
+use Rattle.model.proofs.Tables.Loads.{holds-load}
 use Rattle.model.proofs.Tables.Rules.{data_range}
 use Rattle.volume.specs.Blank.{Tells}
 

@@ -1,4 +1,2 @@
-pub mod Acts
 pub mod Blank
 pub mod Views
-pub mod Writing

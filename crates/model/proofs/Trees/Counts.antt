@@ -2,7 +2,7 @@
 use Rattle.std.proofs.Common.{◌≡◌, ℕ, zero, suc, ◌+◌, ◌-◌, ◌<◌, ◌≤◌, Bool, true, false, cond, eqb, List, [], ◌∷◌, ◌++◌, length, get_or, Some, None, sym, refl, ◌∙◌, arith}
 use Rattle.std.proofs.lemmas.List.{length-append}
 use Rattle.std.proofs.lemmas.Bool.{both_ways}
-use Rattle.model.specs.Image.{bytes, Image, look, is_ok}
+use Rattle.model.specs.Image.{Image, look, is_ok}
 use Rattle.model.specs.Tables.{Entry, Tables, no_entry, live, used, data_sector, live_places, member}
 use Rattle.model.specs.Tree.{sectors_of}
 use Rattle.model.specs.Volume.{item_path, body, file_items, tree_of, free_from, free_sectors}

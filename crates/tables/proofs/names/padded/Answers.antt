@@ -1,4 +1,4 @@
-use Rattle.std.proofs.Common.{◌≡◌, ℕ, ◌-◌, List, ◌++◌, length, take, drop, replicate, ap, ◌∙◌, ap₂, arith}
+use Rattle.std.proofs.Common.{◌≡◌, ◌-◌, ◌++◌, take, drop, replicate, ap, ◌∙◌, arith}
 use Rattle.model.specs.Names.{padded}
 use Rattle.tables.proofs.Blanks.{fill_up, fits-padded}
 use Rattle.tables.proofs.names.padded.Goals as goal

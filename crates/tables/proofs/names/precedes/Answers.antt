@@ -1,4 +1,4 @@
-use Rattle.std.proofs.Common.{◌≡◌, ℕ, ltb, List, [], ◌∷◌, length, None, sym, inl, inr, refl, ◌∙◌, arith}
+use Rattle.std.proofs.Common.{◌≡◌, ℕ, ltb, List, [], ◌∷◌, length, None, sym, inl, inr, ◌∙◌, arith}
 use Rattle.std.specs.Slice.Iter.{iter_steps, iter_rest}
 use Rattle.std.specs.Iterator.Adapters.{zip_steps, zip_first, zip_second}
 use Rattle.std.specs.declared.iter.Zip.{Zip}

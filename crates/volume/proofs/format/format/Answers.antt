@@ -1,4 +1,4 @@
-use Rattle.std.proofs.Common.{◌≡◌, ℕ, List, Err, sym, refl, ap, ◌∙◌, ap₂}
+use Rattle.std.proofs.Common.{Err, ap, ◌∙◌}
 use Rattle.model.specs.Image.{Image, put, from_to}
 use Rattle.model.specs.Volume.{blank_mark}
 use Rattle.std.proofs.lemmas.Result.{err_from_is_err_and}

@@ -1,9 +1,8 @@
-use Rattle.std.proofs.Common.{◌≡◌, ℕ, true, false, not, get_or, Some, None, Ok, Err, Result, sym, refl, ap, ◌∙◌, subst, MatchResult}
+use Rattle.std.proofs.Common.{◌≡◌, true, false, Some, None, Ok, Err, sym, ap, ◌∙◌, subst, MatchResult}
 use Rattle.std.proofs.lemmas.Result.{err_from_is_err_and}
 use Rattle.model.specs.Image.{Image}
-use Rattle.model.specs.Tables.{Tables, load, sound, sound_by}
+use Rattle.model.specs.Tables.{load, sound}
 use Rattle.model.specs.Volume.{inspection}
-use Rattle.model.specs.declared.types.Refusal.{Refusal}
 use Rattle.tables.specs.Views.{view}
 use Rattle.tables.specs.declared.consistent.Consistent.{Consistent}
 use Rattle.volume.proofs.Admitting.{refused_alike, judged, told-sound}

@@ -1,4 +1,4 @@
-use Rattle.std.proofs.Common.{◌≡◌, Ok, sym, refl, ap, ◌∙◌}
+use Rattle.std.proofs.Common.{sym, ap, ◌∙◌}
 use Rattle.model.specs.Image.{look}
 use Rattle.tables.specs.Views.{view}
 use Rattle.volume.proofs.Probes.{loads}

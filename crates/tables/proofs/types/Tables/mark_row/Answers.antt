@@ -1,5 +1,5 @@
-use Rattle.std.proofs.Common.{◌≡◌, ℕ, ◌<◌, List, length, get_or, sym, refl, ap, ◌∙◌, arith}
-use Rattle.model.specs.Tables.{Tables as Model, used}
+use Rattle.std.proofs.Common.{ℕ, List, get_or, sym, refl, ap, ◌∙◌, arith}
+use Rattle.model.specs.Tables.{used}
 use Rattle.model.specs.Volume.{marked}
 use Rattle.model.proofs.Tables.Places.{used-short}
 use Rattle.tables.specs.Views.{view, marks_view, entries_view, rows_view}

@@ -1,6 +1,5 @@
-use Rattle.std.proofs.Common.{◌≡◌, refl, ap}
-use Rattle.tables.specs.Views.{view, entry_view}
-use Rattle.tables.specs.declared.types.Tables.{Tables}
+use Rattle.std.proofs.Common.{refl}
+use Rattle.tables.specs.Views.{entry_view}
 use Rattle.tables.proofs.Changing.{put-past, put_dir, put_file}
 use Rattle.tables.proofs.types.Tables.put_entry.Goals as goal
 

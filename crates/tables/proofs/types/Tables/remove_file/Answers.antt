@@ -1,4 +1,4 @@
-use Rattle.std.proofs.Common.{◌≡◌, ◌<◌, List, length, sym, refl, ap, ◌∙◌, arith}
+use Rattle.std.proofs.Common.{List, sym, refl, ap, ◌∙◌, arith}
 use Rattle.model.specs.Tables.{Tables as Model, Entry as ModelEntry}
 use Rattle.model.specs.Volume.{freed}
 use Rattle.tables.specs.Views.{view}

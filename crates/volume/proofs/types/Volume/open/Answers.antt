@@ -1,4 +1,4 @@
-use Rattle.std.proofs.Common.{◌≡◌, Some, None, Option, sym, refl, ap, ◌∙◌, subst, ap₂}
+use Rattle.std.proofs.Common.{◌≡◌, Option, sym, subst}
 use Rattle.model.specs.Image.{Image}
 use Rattle.model.specs.Volume.{opened, Kept}
 use Rattle.tables.specs.Views.{view}
