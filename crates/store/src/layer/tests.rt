@@ -69,7 +69,9 @@ fn window_serves(rt: HostRuntime) {
         assert_eq!(rt; window.write(sector, &[9; SECTOR]), answer);
     }
     assert_eq!(rt; buffer[511], 7);
-    assert_eq!(rt; window.into_below().contents[0], 9);
+    let below = window.into_below();
+    let first = below.contents[0];
+    assert_eq!(rt; first, 9);
 }
 
 #[test]
@@ -121,7 +123,9 @@ fn spares_serve(rt: HostRuntime) -> Result<(), Fail> {
         assert_eq!(rt; spares.write(sector, &[9; SECTOR]), answer);
     }
     assert_eq!(rt; buffer[511], 7);
-    assert_eq!(rt; spares.into_below().contents[0], 9);
+    let below = spares.into_below();
+    let first = below.contents[0];
+    assert_eq!(rt; first, 9);
     Ok(())
 }
 
