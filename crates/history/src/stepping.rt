@@ -6,7 +6,7 @@ ghost use Rattle.history.specs.Views.{call_view, items_view, cut_names, reply_vi
 use crate::calls::Call;
 use crate::devices::Device;
 use crate::replies::{Item, Name, Reply};
-use calls::outcomes::Listed;
+use tables::outcomes::Listed;
 use model::types::Refusal;
 use store::Store;
 use volume::types::Volume;

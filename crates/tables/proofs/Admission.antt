@@ -9,13 +9,13 @@ use Rattle.model.proofs.Consistent.{sound-consistent}
 use Rattle.model.proofs.Store.Writes.{look_inside}
 
 -- a store whose dead sectors are those that the array names
-abbrev sector : Bool → Sector
+abbrev pub sector : Bool → Sector
 sector b = cond b (dead 0 0) (bytes [])
 
-abbrev sectors : List Bool → Image
+abbrev pub sectors : List Bool → Image
 sectors ds = map sector ds
 
-alive-told : (ds : List Bool) (s : ℕ) → alive (sectors ds) s ≡ not (get_or ds s true)
+pub alive-told : (ds : List Bool) (s : ℕ) → alive (sectors ds) s ≡ not (get_or ds s true)
 alive-told ds s = go (cases_lt s (length ds))
   where
     one : (b : Bool) → is_ok (seen (sector b)) ≡ not b

@@ -1,3 +1,5 @@
 pub mod Rules
 pub mod Views
 pub mod Plans
+pub mod Subtrees
+pub mod Writing

@@ -8,7 +8,7 @@ use crate::types::Tables;
 // A data sector counts as dead where its mark says so.
 #[derive(Clone, Copy)]
 pub struct Consistent {
-    tables: Tables,
+    pub(crate) tables: Tables,
     ghost sound: { consistent (view tables) ≡ true },
 }
 

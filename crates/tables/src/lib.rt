@@ -2,18 +2,29 @@
 #![tactic(auto)]
 
 pub mod changes;
+mod checks;
 pub mod claims;
 pub mod consistent;
 pub mod entries;
+pub mod finding;
 pub mod layout;
+pub mod listing;
 pub mod lookup;
+pub mod making;
 pub mod marks;
 pub mod names;
+pub mod outcomes;
 pub mod paths;
+pub mod pruning;
+pub mod removing;
+pub mod renaming;
 pub mod rows;
+mod sectors;
 pub mod sizes;
 pub mod slots;
 pub mod soundness;
+mod subtree;
 #[cfg(test)]
 mod tests;
 pub mod types;
+pub mod writing;

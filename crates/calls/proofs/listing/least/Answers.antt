@@ -1,8 +1,0 @@
-use Rattle.std.proofs.Common.{refl}
-use Rattle.std.specs.Option.{option_map}
-use Rattle.calls.specs.Plans.{listed_view}
-use Rattle.calls.proofs.Listings.{finds}
-use Rattle.calls.proofs.listing.least.Goals as goal
-
-pub loop-i-init : goal.loop-i-init
-loop-i-init c = (refl, finds c.args.kind c.args.dir c.args.after.now c.args.entries.now (option_map listed_view c.args.best))

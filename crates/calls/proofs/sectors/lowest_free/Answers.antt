@@ -1,5 +1,0 @@
-use Rattle.calls.proofs.Hunts.{held_none, hunts}
-use Rattle.calls.proofs.sectors.lowest_free.Goals as goal
-
-pub loop-i-init : goal.loop-i-init
-loop-i-init c = (held_none c.args.tables.now, hunts c.args.tables.now c.args.count c.requires)

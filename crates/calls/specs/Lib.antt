@@ -1,3 +1,0 @@
-pub mod Plans
-pub mod Subtrees
-pub mod Writing

@@ -1,0 +1,37 @@
+-- Which refusal a list of checks picks, part by part.
+use Rattle.std.proofs.Common.{◌≡◌, ℕ, Bool, true, false, cond, not, ◌&&◌, List, [], ◌∷◌, ◌++◌, IsErrAnd, Some, None, Ok, Err, Option, Result, sym, refl, ap, ◌∙◌, subst, arith}
+use Rattle.std.proofs.lemmas.Result.{err_from_is_err_and}
+use Rattle.model.specs.Refusals.{Check, check, picked}
+use Rattle.model.specs.declared.types.Refusal.{Refusal}
+use Rattle.tables.specs.Plans.{Passes}
+
+-- one check ------------------------------------------------------------------------------------------------
+
+pub skip : {x : Option Refusal} (b : Bool) (r : Refusal) (y : Option Refusal) → b ≡ false → y ≡ x → cond b (Some r) y ≡ x
+skip b r y h e = ap (λ (c : Bool). cond c (Some r) y) h ∙ e
+
+pub stop : (b : Bool) (r : Refusal) (y : Option Refusal) → b ≡ true → cond b (Some r) y ≡ Some r
+stop b r y h = ap (λ (c : Bool). cond c (Some r) y) h
+
+-- checks that were passed, and later ones ------------------------------------------------------------------
+
+pub front-passed : (xs ys : List Check) → picked xs ≡ None → picked (xs ++ ys) ≡ picked ys
+front-passed [] ys h = refl
+front-passed (x ∷ xs) ys h = go x.refuses h (front-passed xs ys)
+  where
+    go : (b : Bool) → cond b (Some x.with) (picked xs) ≡ None → (picked xs ≡ None → picked (xs ++ ys) ≡ picked ys) → cond b (Some x.with) (picked (xs ++ ys)) ≡ picked ys
+    go true h ih = absurd (let z : ◌≡◌ {A = ℕ} 0 1 = cc in let w : ⊥ = omega arith in w)
+    go false h ih = ih h
+
+pub front_stopped : (xs ys : List Check) (e : Refusal) → picked xs ≡ Some e → picked (xs ++ ys) ≡ Some e
+front_stopped [] ys e h = absurd (let z : ◌≡◌ {A = ℕ} 0 1 = cc in let w : ⊥ = omega arith in w)
+front_stopped (x ∷ xs) ys e h = go x.refuses h (front_stopped xs ys e)
+  where
+    go : (b : Bool) → cond b (Some x.with) (picked xs) ≡ Some e → (picked xs ≡ Some e → picked (xs ++ ys) ≡ Some e) → cond b (Some x.with) (picked (xs ++ ys)) ≡ Some e
+    go true h ih = h
+    go false h ih = ih h
+
+-- a refusal handed on ----------------------------------------------------------------------------------------
+
+pub handed_on : {A : Type 0} (cs : List Check) (made : A → Type 0) (r : Result A Refusal) (e : Refusal) → IsErrAnd r (λ x. x ≡ e) → picked cs ≡ Some e → Passes cs made r
+handed_on cs made r e by h = let p = err_from_is_err_and r by in subst (λ (x : Result _ Refusal). Passes cs made x) (sym (p.1 ∙ ap Err p.2)) h

@@ -1,0 +1,6 @@
+use Rattle.std.proofs.Common.{refl}
+use Rattle.tables.proofs.Freeing.{dirs_laws}
+use Rattle.tables.proofs.pruning.free_dirs.Goals as goal
+
+pub loop-number-init : goal.loop-number-init
+loop-number-init c = (dirs_laws c.args.marked.now c.args.tables.now, refl, refl, refl)
