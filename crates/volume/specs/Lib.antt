@@ -1,2 +1,4 @@
+pub mod Acts
 pub mod Blank
 pub mod Views
+pub mod Writing

@@ -5,6 +5,7 @@ ghost use Rattle.model.specs.Tables.{load as tables_of, used};
 ghost use Rattle.model.specs.Volume.{format_refusal};
 ghost use Rattle.tables.specs.Views.{view};
 ghost use Rattle.volume.specs.Blank.{Tells};
+ghost use Rattle.volume.specs.Writing.{Filled};
 
 use model::types::{Fault, Refusal};
 use store::Store;
@@ -29,6 +30,20 @@ fn read_sector<S: Store>(store: &mut S, sector: u16) -> Result<[u8; 512], Fault>
     let mut buffer = [0; 512];
     store.read(sector, &mut buffer)?;
     Ok(buffer)
+}
+
+// Reads the sectors that the row names, one after another, to the front of the buffer.
+pub(crate) fn read_row<S: Store>(store: &mut S, row: &Row, buffer: &mut [u8]) -> Result<(), Refusal>
+    requires { 512 * length (used row.now.places) ≤ length buffer.old }
+    ensures filled { Filled (S.image store.old) (used row.now.places) buffer.old result buffer.new }
+    ensures image { S.image store.new ≡ S.image store.old }
+{
+    for k in 0..row.count() {
+        let sector = read_sector(store, u16::from(row.places[k]))?;
+        let at = SECTOR * k;
+        buffer[at..at + SECTOR].copy_from_slice(&sector);
+    }
+    Ok(())
 }
 
 // The tables that the store holds, or the fault of the first table sector that cannot be read.

@@ -1,0 +1,20 @@
+use Rattle.std.proofs.Common.{◌≡◌, [], ◌∷◌, Err, refl, ap, ◌∙◌}
+use Rattle.std.proofs.lemmas.Result.{err_from_is_err_and}
+use Rattle.model.specs.Refusals.{prune}
+use Rattle.model.specs.Tables.{Tables}
+use Rattle.model.specs.Volume.{files_write, dirs_write, map_write}
+use Rattle.tables.specs.Views.{view}
+use Rattle.volume.specs.Views.{kept_view}
+use Rattle.volume.proofs.Acting.{refused}
+use Rattle.volume.proofs.types.Volume.prune.Goals as goal
+
+pub returns-in_err-next : goal.returns-in_err-next
+returns-in_err-next g c =
+    let i = g.S.Store.image c.args.self.now.store in
+    let p = err_from_is_err_and c.from_residual.result c.from_residual.ensures.1 in
+    refused i (kept_view c.args.self.now.tables) (view c.in-Some.kept.tables) (ap kept_view c.in-Some.is) (prune c.args.start c.args.path.now) tt c.in_err-next.field-0.0 c.from_residual.result (c.in_err-next.ensures i) (p.1 ∙ ap Err p.2)
+
+pub returns : goal.returns
+returns g c =
+    let plan = c.in_ok-next.ensures (g.S.Store.image c.args.self.now.store) in
+    c.commit.ensures (view c.in-Some.kept.tables) (prune c.args.start c.args.path.now) (record { stands = ap kept_view c.in-Some.is; passed = plan.0; quiet = refl; leads = plan.1; makes = ap (λ (u : Tables). files_write u ∷ dirs_write u ∷ map_write u ∷ []) plan.1 })

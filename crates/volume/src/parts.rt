@@ -1,0 +1,77 @@
+// The sectors that a call writes: tables and data, one after another, up to the first that meets a fault.
+ghost use Rattle.std.specs.Prelude.{◌≡◌, ◌*◌, map, length};
+ghost use Rattle.model.specs.Image.{access, put};
+ghost use Rattle.model.specs.Tables.{used};
+ghost use Rattle.model.specs.Volume.{data_writes};
+ghost use Rattle.tables.specs.Views.{view};
+ghost use Rattle.volume.specs.Writing.{part_of, part_write, Wrote};
+
+use crate::sectors::{DIRS, FILES, MAP, ROWS};
+use model::types::{Fault, Kind, Refusal};
+use store::Store;
+use tables::sizes::SECTOR;
+use tables::types::{Row, Tables};
+
+// One of the four tables.
+#[derive(Clone, Copy)]
+pub(crate) enum Part {
+    Map,
+    Dirs,
+    Files,
+    Rows,
+}
+
+impl Part {
+    // The table that has the entries of a kind.
+    pub(crate) fn of(kind: Kind) -> Part
+        ensures { result ≡ part_of kind }
+    {
+        match kind {
+            Kind::Directory => Part::Dirs,
+            Kind::File => Part::Files,
+        }
+    }
+
+    // Writes this table to its sector.
+    fn write<S: Store>(self, tables: &Tables, store: &mut S) -> Result<(), Fault>
+        ensures answer { result ≡ access (S.image store.old) (part_write (view tables.now) self).at }
+        ensures image { S.image store.new ≡ put (S.image store.old) (part_write (view tables.now) self).at (part_write (view tables.now) self).new }
+    {
+        match self {
+            Part::Map => store.write(MAP, &tables.map_sector()),
+            Part::Dirs => store.write(DIRS, &tables.dirs_sector()),
+            Part::Files => store.write(FILES, &tables.files_sector()),
+            Part::Rows => store.write(ROWS, &tables.rows_sector()),
+        }
+    }
+}
+
+// Writes these tables, in their order.
+pub(crate) fn write_parts<S: Store>(
+    store: &mut S,
+    tables: &Tables,
+    parts: &[Part],
+) -> Result<(), Refusal>
+    ensures { Wrote (S.image store.old) (map (part_write (view tables.now)) parts.now) result (S.image store.new) }
+{
+    for part in parts {
+        part.write(tables, store)?;
+    }
+    Ok(())
+}
+
+// Writes the contents to the sectors that the row names, in their order.
+pub(crate) fn write_data<S: Store>(store: &mut S, row: &Row, contents: &[u8]) -> Result<(), Refusal>
+    requires { length contents.now ≡ 512 * length (used row.now.places) }
+    ensures { Wrote (S.image store.old) (data_writes (used row.now.places) contents.now) result (S.image store.new) }
+{
+    let mut rest = contents;
+    for k in 0..row.count() {
+        let Some((sector, more)) = rest.split_first_chunk::<SECTOR>() else {
+            return Ok(());
+        };
+        store.write(u16::from(row.places[k]), sector)?;
+        rest = more;
+    }
+    Ok(())
+}
