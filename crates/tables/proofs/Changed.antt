@@ -1,12 +1,11 @@
 -- What an accepted call makes of the tables is sound again.
-use Rattle.std.proofs.Common.{◌≡◌, ℕ, Bool, true, false, not, ◌&&◌, List, [], ◌∷◌, ◌++◌, Some, None, Option, sym, refl, ap, ◌∙◌, subst, arith}
-use Rattle.std.proofs.lemmas.Bool.{and_from}
+use Rattle.std.proofs.Common.{◌≡◌, ℕ, Bool, true, false, not, ◌&&◌, List, [], ◌∷◌, ◌++◌, Some, None, Option, sym, refl, ap, ◌∙◌, subst}
 use Rattle.model.specs.Image.{Image}
 use Rattle.model.specs.Refusals.{Call, Check, mkdir, unlink, move, check, picked}
 use Rattle.model.specs.Names.{names, spelt, within}
 use Rattle.model.specs.Tables.{Tables as Model, Entry as ModelEntry, consistent}
 use Rattle.model.specs.Tree.{is_some}
-use Rattle.model.specs.Volume.{checks, tables_after, starts, leads, named, is_dir, number_of, free_entry, or_zero, new_entry, renamed, unlinked, made}
+use Rattle.model.specs.Volume.{checks, tables_after, starts, leads, named, is_dir, number_of, free_entry, or_zero, new_entry, renamed, unlinked}
 use Rattle.model.specs.declared.types.Kind.{Kind}
 use Rattle.model.specs.declared.types.Kind.TheVariants.{Directory as directory, File as file}
 use Rattle.model.specs.declared.types.Refusal.{Refusal}

@@ -1,7 +1,7 @@
 -- Which refusal a list of checks picks, part by part.
-use Rattle.std.proofs.Common.{◌≡◌, ℕ, Bool, true, false, cond, not, ◌&&◌, List, [], ◌∷◌, ◌++◌, IsErrAnd, Some, None, Ok, Err, Option, Result, sym, refl, ap, ◌∙◌, subst, arith}
+use Rattle.std.proofs.Common.{◌≡◌, ℕ, Bool, true, false, cond, List, [], ◌∷◌, ◌++◌, IsErrAnd, Some, None, Err, Option, Result, sym, refl, ap, ◌∙◌, subst, arith}
 use Rattle.std.proofs.lemmas.Result.{err_from_is_err_and}
-use Rattle.model.specs.Refusals.{Check, check, picked}
+use Rattle.model.specs.Refusals.{Check, picked}
 use Rattle.model.specs.declared.types.Refusal.{Refusal}
 use Rattle.tables.specs.Plans.{Passes}
 

@@ -1,15 +1,14 @@
 -- The item that a path names, and the place of a new one.
-use Rattle.std.proofs.Common.{◌≡◌, ℕ, zero, suc, ◌<◌, ◌≤◌, Bool, true, false, not, ◌&&◌, leb, List, [], ◌∷◌, length, is_some as option_is_some, Some, None, Option, sym, refl, ap, ◌∙◌, subst, ap₂, arith}
+use Rattle.std.proofs.Common.{◌≡◌, ℕ, ◌<◌, ◌≤◌, true, false, not, ◌&&◌, leb, List, [], ◌∷◌, length, is_some as option_is_some, Some, None, Option, sym, refl, ap, ◌∙◌, arith}
 use Rattle.std.proofs.lemmas.Bool.{and_parts, leb-true, false≢true}
 use Rattle.model.specs.Refusals.{check, picked}
-use Rattle.model.specs.Names.{Path, Name, names, spelt, proper_name, padded}
+use Rattle.model.specs.Names.{Path, names, spelt, padded}
 use Rattle.model.specs.Book.{last}
 use Rattle.model.specs.Tables.{Tables, Entry}
 use Rattle.model.specs.Tree.{is_some}
 use Rattle.model.specs.Volume.{named, item, item_in, holder, leads, new_entry, or_zero}
 use Rattle.model.specs.declared.types.Kind.{Kind}
 use Rattle.model.specs.declared.types.Kind.TheVariants.{Directory as directory, File as file}
-use Rattle.model.specs.declared.types.Refusal.{Refusal}
 use Rattle.model.specs.declared.types.Refusal.TheVariants.{Lost as lost, Taken as taken}
 use Rattle.model.proofs.Naming.Spelling.{spelt_some, last-spelt}
 use Rattle.tables.specs.Plans.{begun, there, vacant, is_kind}

@@ -1,5 +1,5 @@
 -- What a call would do, worked out in memory: refused by the first check that refuses, or the tables after it.
-use Rattle.std.specs.Prelude.{◌≡◌, ℕ, ◌<◌, Bool, not, List, [], ◌∷◌, Some, None, Option, Result, MatchResult}
+use Rattle.std.specs.Prelude.{◌≡◌, ℕ, Bool, not, List, [], ◌∷◌, Some, None, Option, Result, MatchResult}
 use Rattle.model.specs.Image.{Image}
 use Rattle.model.specs.Refusals.{Call, Check, check, picked}
 use Rattle.model.specs.Names.{spelt}

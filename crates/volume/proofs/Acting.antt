@@ -1,20 +1,19 @@
 -- What a call answers and leaves, by the way that it took: refused, stopped by a fault, or accepted.
-use Rattle.std.proofs.Common.{◌≡◌, ℕ, ◌<◌, ◌≤◌, Bool, true, false, cond, ltb, List, [], length, get_or, Some, None, Ok, Err, Option, Result, sym, refl, ap, ◌∙◌, subst, ap₂, arith}
+use Rattle.std.proofs.Common.{◌≡◌, ℕ, ◌<◌, Bool, true, false, cond, ltb, List, [], length, get_or, Some, None, Ok, Err, Option, Result, sym, refl, ap, ◌∙◌, subst, ap₂, arith}
 use Rattle.std.proofs.lemmas.Bool.{ltb-true}
 use Rattle.model.specs.Answers.{answer, turned_away, refused_or_met, first_fault, sector_reads, over, unless, read_buffer}
-use Rattle.model.specs.Image.{Image, Sector, dead, seen, look, past_end_at, whole, Write, Written, writes, reads}
+use Rattle.model.specs.Image.{Image, dead, seen, look, past_end_at, whole, Write, writes, reads}
 use Rattle.model.specs.Refusals.{Call, read, picked}
-use Rattle.model.specs.Tables.{Tables, load}
+use Rattle.model.specs.Tables.{Tables}
 use Rattle.model.specs.Volume.{Volume, checks, tables_after, sector_writes, settled, done, after, Kept, InStep}
 use Rattle.model.specs.declared.types.Fault.{Fault}
 use Rattle.model.specs.declared.types.Refusal.{Refusal}
-use Rattle.model.specs.declared.types.Refusal.TheVariants.{Dead as dead_table, Shut as shut}
 use Rattle.model.proofs.Calls.{stays_ready}
 use Rattle.model.proofs.Meaning.{load_shaped}
 use Rattle.model.proofs.Ready.{Ready}
 use Rattle.model.proofs.Tables.{sound_facts, facts_sound}
 use Rattle.model.proofs.Tables.Loads.{load-holds}
-use Rattle.volume.specs.Acts.{Acts, Planned, Commits}
+use Rattle.volume.specs.Acts.{Acts, Commits}
 use Rattle.volume.specs.Writing.{Wrote, unless_fault}
 use Rattle.volume.proofs.Admitting.{on}
 use Rattle.volume.proofs.Writing.{fault_of}

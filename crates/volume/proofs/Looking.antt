@@ -1,11 +1,11 @@
 -- What the calls that only look answer.
-use Rattle.std.proofs.Common.{◌≡◌, ℕ, List, Some, None, Ok, Err, Option, Result, sym, refl, ap, ◌∙◌, subst, MatchResult}
+use Rattle.std.proofs.Common.{◌≡◌, ℕ, List, Some, None, Ok, Err, Option, Result, sym, ap, ◌∙◌, subst}
 use Rattle.std.specs.Option.{option_map}
-use Rattle.model.specs.Answers.{answer, refused_or_met, find_answer, item_or_root, next_answer, least_after, listing, Listed as ModelListed}
+use Rattle.model.specs.Answers.{answer, refused_or_met, find_answer, item_or_root, next_answer, least_after, listing}
 use Rattle.model.specs.Image.{Image}
-use Rattle.model.specs.Refusals.{find, next, picked}
+use Rattle.model.specs.Refusals.{find, next}
 use Rattle.model.specs.Tables.{Tables}
-use Rattle.model.specs.Volume.{Volume, checks, named, number_of}
+use Rattle.model.specs.Volume.{checks, named, number_of}
 use Rattle.model.specs.declared.types.Kind.{Kind}
 use Rattle.model.specs.declared.types.Refusal.{Refusal}
 use Rattle.tables.specs.Plans.{Passes, listed_view}

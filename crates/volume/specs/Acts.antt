@@ -1,5 +1,5 @@
 -- What a call of a volume gives and leaves.
-use Rattle.std.specs.Prelude.{◌≡◌, List, [], map, Some, None, Result}
+use Rattle.std.specs.Prelude.{◌≡◌, List, [], Some, None, Result}
 use Rattle.model.specs.Answers.{answer, turned_away, sector_reads}
 use Rattle.model.specs.Image.{Write}
 use Rattle.model.specs.Refusals.{Call, picked}

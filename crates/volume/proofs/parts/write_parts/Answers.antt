@@ -1,4 +1,4 @@
-use Rattle.std.proofs.Common.{◌≡◌, map, get_or, Ok, Err, sym, ap, ◌∙◌}
+use Rattle.std.proofs.Common.{map, Err, sym, ap, ◌∙◌}
 use Rattle.std.proofs.lemmas.Result.{err_from_is_err_and}
 use Rattle.tables.specs.Views.{view}
 use Rattle.volume.specs.Writing.{part_write}

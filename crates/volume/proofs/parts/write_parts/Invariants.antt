@@ -1,4 +1,4 @@
-use Rattle.std.proofs.Common.{◌≡◌, map, drop}
+use Rattle.std.proofs.Common.{map, drop}
 use Rattle.tables.specs.Views.{view}
 use Rattle.volume.specs.Writing.{part_write}
 use Rattle.volume.proofs.Writing.{GoesOn}

@@ -1,4 +1,3 @@
-use Rattle.std.proofs.Common.{◌≡◌}
 use Rattle.model.specs.Tables.{used}
 use Rattle.volume.proofs.Readouts.{ReadsOn}
 use Rattle.volume.proofs.sectors.read_row.Given as goal

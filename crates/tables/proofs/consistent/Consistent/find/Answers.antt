@@ -1,4 +1,4 @@
-use Rattle.std.proofs.Common.{◌≡◌, not, Some, None, sym, refl, ap, ◌∙◌}
+use Rattle.std.proofs.Common.{not, sym, refl, ap}
 use Rattle.model.specs.Names.{spelt_or_empty}
 use Rattle.model.specs.Tree.{is_some}
 use Rattle.model.specs.Volume.{named, starts}

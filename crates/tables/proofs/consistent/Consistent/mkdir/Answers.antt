@@ -1,5 +1,4 @@
-use Rattle.std.proofs.Common.{◌≡◌, ℕ, not, [], ◌∷◌, Some, None, Option, sym, refl, ap, ◌∙◌}
-use Rattle.model.specs.Image.{Image}
+use Rattle.std.proofs.Common.{not, [], ◌∷◌, sym, ap, ◌∙◌}
 use Rattle.model.specs.Refusals.{mkdir, check}
 use Rattle.model.specs.Tables.{live}
 use Rattle.model.specs.Tree.{is_some}

@@ -1,4 +1,4 @@
-use Rattle.std.proofs.Common.{◌≡◌, ℕ, ◌≤◌, List, length, Some, sym, ap, ◌∙◌, subst}
+use Rattle.std.proofs.Common.{ℕ, ◌≤◌, List, length, Some, sym, ap, ◌∙◌, subst}
 use Rattle.model.specs.Names.{padded}
 use Rattle.model.specs.Volume.{item_in}
 use Rattle.tables.specs.Views.{view, entry_view}

@@ -1,4 +1,4 @@
-use Rattle.std.proofs.Common.{◌≡◌, ℕ, [], Some, sym, refl, ap, ◌∙◌}
+use Rattle.std.proofs.Common.{ℕ, [], sym, ◌∙◌}
 use Rattle.model.specs.Refusals.{move}
 use Rattle.model.specs.Volume.{checks}
 use Rattle.model.specs.declared.types.Kind.{Kind}

@@ -1,6 +1,6 @@
 use denote.Enum.Bare.{same_true, same_false}
 use Rattle.model.specs.contracts.types.Kind.{the_type}
-use Rattle.std.proofs.Common.{◌≡◌, ℕ, not, [], ◌∷◌, Some, None, sym, ap, ◌∙◌}
+use Rattle.std.proofs.Common.{◌≡◌, not, [], ◌∷◌, Some, None, sym, ap, ◌∙◌}
 use Rattle.model.specs.Refusals.{check}
 use Rattle.model.specs.Volume.{named}
 use Rattle.model.specs.declared.types.Kind.{Kind}

@@ -1,4 +1,4 @@
-use Rattle.std.proofs.Common.{◌≡◌, map, Ok, Err, refl, ap, ◌∙◌, subst}
+use Rattle.std.proofs.Common.{map, Ok, Err, refl, ap, ◌∙◌, subst}
 use Rattle.std.proofs.lemmas.Result.{err_from_is_err_and}
 use Rattle.model.specs.Tables.{Tables}
 use Rattle.tables.specs.Views.{view}

@@ -1,5 +1,4 @@
-use Rattle.std.proofs.Common.{◌≡◌, Option, sym, ap, ◌∙◌}
-use Rattle.tables.specs.declared.consistent.Consistent.{Consistent}
+use Rattle.std.proofs.Common.{ap}
 use Rattle.volume.specs.Views.{kept_view}
 use Rattle.volume.proofs.Looking.{found}
 use Rattle.volume.proofs.types.Volume.find.Goals as goal

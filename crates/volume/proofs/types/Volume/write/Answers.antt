@@ -1,12 +1,11 @@
-use Rattle.std.proofs.Common.{◌≡◌, ℕ, ◌*◌, ◌<◌, List, [], ◌∷◌, ◌++◌, length, get_or, Some, Ok, Err, Option, Result, sym, refl, ap, ◌∙◌, subst, ap₂, arith}
+use Rattle.std.proofs.Common.{◌≡◌, ℕ, ◌*◌, List, [], ◌∷◌, length, get_or, Some, Ok, Err, Option, sym, refl, ap, ◌∙◌, subst, arith}
 use Rattle.std.proofs.lemmas.List.{get_or-map}
 use Rattle.std.proofs.lemmas.Result.{err_from_is_err_and}
 use Rattle.model.specs.Answers.{of_tables}
-use Rattle.model.specs.Image.{Image, Write}
+use Rattle.model.specs.Image.{Write}
 use Rattle.model.specs.Refusals.{write}
 use Rattle.model.specs.Tables.{Tables as Model, used, row}
-use Rattle.model.specs.Volume.{data_writes, files_write, map_write, rows_write, free_entry, given, or_zero, tables_after, sector_writes}
-use Rattle.model.specs.declared.types.Refusal.{Refusal}
+use Rattle.model.specs.Volume.{data_writes, files_write, map_write, rows_write, free_entry, given, or_zero, tables_after}
 use Rattle.tables.specs.Writing.{Written}
 use Rattle.tables.specs.declared.outcomes.Placed.{Placed}
 use Rattle.tables.specs.Views.{view}
