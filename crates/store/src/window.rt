@@ -70,7 +70,7 @@ impl<S: Store> Store for Window<S> {
     ghost wholeness = { λ w.
         let a = w.first in
         let n = w.count in
-        layer_whole (windows.fits a n) n (windows.serve a n) (windows.sound a n) (S.Store.image w.below) (S.wholeness w.below) };
+        layer_whole (windows.fits a n) n (windows.serve a n) (windows.sound a n) (S.image w.below) (S.wholeness w.below) };
 
     fn size(&self) -> u16 {
         match Window::fits(&self.below, self.first, self.count) {

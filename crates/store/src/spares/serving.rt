@@ -67,7 +67,7 @@ impl<S: Store> Store for Spares<S> {
     ghost wholeness = { λ s.
         let v = s.visible in
         let ps = s.pairs.items in
-        layer_whole (sparing.fits v ps) v (sparing.serve v ps) (sparing.sound v ps) (S.Store.image s.below) (S.wholeness s.below) };
+        layer_whole (sparing.fits v ps) v (sparing.serve v ps) (sparing.sound v ps) (S.image s.below) (S.wholeness s.below) };
 
     fn size(&self) -> u16 {
         if enough(self.below.size(), self.need) {
