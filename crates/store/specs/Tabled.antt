@@ -1,4 +1,4 @@
--- Images that are a table of a function, from-to 0 n f: what stands at a sector, and what a write there leaves.
+-- Images that are a table of a function, from_to 0 n f: what stands at a sector, and what a write there leaves.
 use Rattle.std.specs.Prelude.{◌≡◌, ℕ, zero, suc, ◌+◌, ◌<◌, ◌≤◌, Bool, true, cond, leb, List, [], ◌∷◌, length, Ok, Err, Result, ◌≢◌, nat_le, nat_lt, slice_index_or, slice_set, refl}
 use Rattle.std.proofs.Common.{sym, ap, ap₂, ◌∙◌, arith}
 use Rattle.std.proofs.lemmas.List.{length-set}

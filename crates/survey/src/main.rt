@@ -4,7 +4,7 @@
 mod stores;
 mod volumes;
 
-// The kit that the repository is proved with, as `rt version` prints it.
+// The kit that the first proof was made with; README names the one of today. The tour keeps its text.
 const KIT: &str = "rattle-kit-8b logic 7f726aa041520687";
 
 fn main(rt: HostRuntime) -> anyhow::Result<()> {
