@@ -10,7 +10,7 @@ use model::types::Kind;
 
 impl Tables {
     // Puts an entry into the table of its kind; the other entries stay.
-    pub fn put_entry(&mut self, kind: Kind, number: u8, entry: Entry)
+    pub(crate) fn put_entry(&mut self, kind: Kind, number: u8, entry: Entry)
         ensures { view self.new ≡ renamed (view self.old) (Some (kind, number)) (entry_view entry) }
     {
         let i = number as usize;
@@ -24,7 +24,7 @@ impl Tables {
     }
 
     // Marks the sectors of a file's row, place by place.
-    pub fn mark_row(&mut self, number: u8, mark: Mark)
+    pub(crate) fn mark_row(&mut self, number: u8, mark: Mark)
         ensures { view self.new ≡ record { marks = marked (used (row (view self.old) number)) mark.0 (view self.old).marks; dirs = (view self.old).dirs; files = (view self.old).files; rows = (view self.old).rows } }
     {
         let i = number as usize;
@@ -38,7 +38,7 @@ impl Tables {
     }
 
     // Sets a file free: its sectors, and the first byte of its name. The rest of its entry and its row stay.
-    pub fn remove_file(&mut self, number: u8)
+    pub(crate) fn remove_file(&mut self, number: u8)
         ensures { view self.new ≡ unlinked (view self.old) number }
     {
         self.mark_row(number, Mark::FREE);

@@ -1,4 +1,5 @@
-// The four tables of a volume: how they lie in sectors, when they are sound, and how items are found in them.
+// The four tables of a volume: how they lie in sectors, when they are sound, how items are found in them, and each call
+// worked out on them in memory.
 #![tactic(auto)]
 
 pub mod changes;
