@@ -5,7 +5,7 @@ use Rattle.model.specs.Answers.{answer, turned_away, refused_or_met, first_fault
 use Rattle.model.specs.Image.{Image, dead, seen, look, past_end_at, whole, Write, writes, reads}
 use Rattle.model.specs.Refusals.{Call, read, picked}
 use Rattle.model.specs.Tables.{Tables}
-use Rattle.model.specs.Volume.{Volume, checks, tables_after, sector_writes, settled, done, after, Kept, InStep}
+use Rattle.model.specs.Volume.{checks, tables_after, sector_writes, settled, done, after, Kept, InStep}
 use Rattle.model.specs.declared.types.Fault.{Fault}
 use Rattle.model.specs.declared.types.Refusal.{Refusal}
 use Rattle.model.proofs.Calls.{stays_ready}
@@ -13,7 +13,11 @@ use Rattle.model.proofs.Meaning.{load_shaped}
 use Rattle.model.proofs.Ready.{Ready}
 use Rattle.model.proofs.Tables.{sound_facts, facts_sound}
 use Rattle.model.proofs.Tables.Loads.{load-holds}
-use Rattle.volume.specs.Acts.{Acts, Commits}
+use Rattle.std.specs.Option.{ForSome}
+use Rattle.tables.specs.Views.{view}
+use Rattle.tables.specs.declared.consistent.Consistent.{Consistent}
+use Rattle.volume.specs.Acts.{Acts, Commits, Planned}
+use Rattle.volume.specs.Views.{kept_view}
 use Rattle.volume.specs.Writing.{Wrote, unless_fault}
 use Rattle.volume.proofs.Admitting.{on}
 use Rattle.volume.proofs.Writing.{fault_of}
@@ -44,6 +48,24 @@ stays i t w c k = go (picked (checks t i c)) refl
         let left = writes (sector_writes t c (tables_after t c)) i in
         subst (λ (f : Option Fault). InStep (Some (settled f t (tables_after t c))) left.image) (sym l.unbroken) (l.ready.loaded, facts_sound left.image (tables_after t c) l.ready.shaped l.ready.facts)
 
+-- the type's invariant after a call, from the one before it
+abbrev pub Held : Option Consistent → Image → Type 0
+Held o i = ForSome o (λ c. InStep (Some (view c.tables)) i)
+
+pub held_is : (o : Option Consistent) (i : Image) → Held o i → Kept (on (kept_view o) i)
+held_is None i h = tt
+held_is (Some c) i h = h c refl
+
+pub is_held : (o : Option Consistent) (i : Image) → Kept (on (kept_view o) i) → Held o i
+is_held o i k = λ c e. subst (λ (x : Option Consistent). Kept (on (kept_view x) i)) e k
+
+pub holds : {A : Type 0} (o u : Option Consistent) (i j : Image) (c : Call) (a r : Result A Refusal) → whole i ≡ true → Held o i → Acts (on (kept_view o) i) c a r (on (kept_view u) j) → Held u j
+holds o u i j c a r w h acts = is_held u j (subst Kept (sym acts.after) (go (kept_view o) (held_is o i h)))
+  where
+    go : (x : Option Tables) → Kept (on x i) → Kept (after (on x i) c)
+    go None k = tt
+    go (Some t) k = stays i t w c k
+
 -- what a call gives and leaves -----------------------------------------------------------------------------
 
 module _ {A : Type 0} (i : Image) (o : Option Tables) (t : Tables) (is : o ≡ Some t) (c : Call) (a : A) where
@@ -54,7 +76,6 @@ module _ {A : Type 0} (i : Image) (o : Option Tables) (t : Tables) (is : o ≡ S
       (record {
         answer = q ∙ sym (ap (λ (x : Option Refusal). answer (refused_or_met x (first_fault (reads (sector_reads t c) i).fault (writes (sector_writes t c (tables_after t c)) i).fault)) a) h);
         after = sym (ap (λ (x : Option Refusal). done x (on (Some t) i) t c) h);
-        kept = λ k. k;
       })
 
   module _ (w : whole i ≡ true) (passed : picked (checks t i c) ≡ None) (quiet : sector_reads t c ≡ []) (q : Result (Unit {0}) Refusal) (j : Image) (wrote : Wrote i (sector_writes t c (tables_after t c)) q j) (r : Result A Refusal) where
@@ -64,30 +85,35 @@ module _ {A : Type 0} (i : Image) (o : Option Tables) (t : Tables) (is : o ≡ S
     leaves : (f : Option Fault) → (writes (sector_writes t c (tables_after t c)) i).fault ≡ f → on (Some (settled f t (tables_after t c))) j ≡ after (on (Some t) i) c
     leaves f e = ap₂ (λ (x : Option Fault) (y : Image). on (Some (settled x t (tables_after t c))) y) (sym e) wrote.image ∙ sym (ap (λ (x : Option Refusal). done x (on (Some t) i) t c) passed)
 
-    keeps : (x : Volume) → x ≡ after (on (Some t) i) c → Kept (on (Some t) i) → Kept x
-    keeps x e k = subst Kept (sym e) (stays i t w c k)
-
     -- all is written, and the new tables are kept
     pub accepted : (u : Option Tables) → q ≡ Ok tt → r ≡ Ok a → u ≡ Some (tables_after t c) → Acts (on o i) c (answer (turned_away (on o i) c) a) r (on u j)
     accepted u ok h new =
         let none = (fault_of (writes (sector_writes t c (tables_after t c)) i).fault q wrote.answer).0 ok in
         let left = ap (λ (x : Option Tables). on x j) new ∙ leaves None none in
-        subst (λ (x : Option Tables). Acts (on x i) c (answer (turned_away (on x i) c) a) r (on u j)) (sym is) (record { answer = h ∙ sym (ap (λ (x : Option Refusal). answer x a) (told None none)); after = left; kept = keeps (on u j) left })
+        subst (λ (x : Option Tables). Acts (on x i) c (answer (turned_away (on x i) c) a) r (on u j)) (sym is) (record { answer = h ∙ sym (ap (λ (x : Option Refusal). answer x a) (told None none)); after = left })
 
     -- a fault on the way: the tables stay
     pub faulted : (e : Refusal) → q ≡ Err e → r ≡ Err e → Acts (on o i) c (answer (turned_away (on o i) c) a) r (on o j)
     faulted e err h =
         let f = (fault_of (writes (sector_writes t c (tables_after t c)) i).fault q wrote.answer).1 e err in
         let left = leaves (Some f.0) f.1 in
-        subst (λ (x : Option Tables). Acts (on x i) c (answer (turned_away (on x i) c) a) r (on x j)) (sym is) (record { answer = h ∙ ap Err f.2 ∙ sym (ap (λ (x : Option Refusal). answer x a) (told (Some f.0) f.1)); after = left; kept = keeps (on (Some t) j) left })
+        subst (λ (x : Option Tables). Acts (on x i) c (answer (turned_away (on x i) c) a) r (on x j)) (sym is) (record { answer = h ∙ ap Err f.2 ∙ sym (ap (λ (x : Option Refusal). answer x a) (told (Some f.0) f.1)); after = left })
 
 -- the new tables were written, or a fault ended the writes
-module _ {A : Type 0} (i : Image) (o : Option Tables) (u : Tables) (ws : List Write) (a : A) (w : whole i ≡ true) (q : Result (Unit {0}) Refusal) (j : Image) (wrote : Wrote i ws q j) (r : Result A Refusal) where
-  pub commits : q ≡ Ok tt → r ≡ Ok a → Commits (on o i) u ws a r (on (Some u) j)
-  commits ok h = λ t c p. accepted i o t p.stands c a w p.passed p.quiet q j (subst (λ (x : List Write). Wrote i x q j) p.makes wrote) r (Some u) ok h (ap Some p.leads)
+module _ {A : Type 0} (i : Image) (o : Option Consistent) (u : Tables) (ws : List Write) (a : A) (w : whole i ≡ true) (q : Result (Unit {0}) Refusal) (j : Image) (wrote : Wrote i ws q j) (r : Result A Refusal) where
+  pub commits : q ≡ Ok tt → r ≡ Ok a → Commits (on (kept_view o) i) u ws a r (on (Some u) j)
+  commits ok h = λ t c p. accepted i (kept_view o) t p.stands c a w p.passed p.quiet q j (subst (λ (x : List Write). Wrote i x q j) p.makes wrote) r (Some u) ok h (ap Some p.leads)
 
-  pub breaks : (e : Refusal) → q ≡ Err e → r ≡ Err e → Commits (on o i) u ws a r (on o j)
-  breaks e err h = λ t c p. faulted i o t p.stands c a w p.passed p.quiet q j (subst (λ (x : List Write). Wrote i x q j) p.makes wrote) r e err h
+  pub breaks : (e : Refusal) → q ≡ Err e → r ≡ Err e → Commits (on (kept_view o) i) u ws a r (on (kept_view o) j)
+  breaks e err h = λ t c p. faulted i (kept_view o) t p.stands c a w p.passed p.quiet q j (subst (λ (x : List Write). Wrote i x q j) p.makes wrote) r e err h
+
+-- and the invariant stands, since such a call was planned
+module _ (i : Image) (o : Option Consistent) (ws : List Write) (w : whole i ≡ true) (held : Held o i) (q : Result (Unit {0}) Refusal) (j : Image) (wrote : Wrote i ws q j) where
+  pub commits_hold : (u : Consistent) → (t : Tables) × ((c : Call) × Planned (on (kept_view o) i) t c (view u.tables) ws) → q ≡ Ok tt → Held (Some u) j
+  commits_hold u p ok = holds {A = Unit {0}} o (Some u) i j p.1.0 _ (Ok tt) w held (commits {A = Unit {0}} i o (view u.tables) ws tt w q j wrote (Ok tt) ok refl p.0 p.1.0 p.1.1)
+
+  pub breaks_hold : (u : Tables) → (t : Tables) × ((c : Call) × Planned (on (kept_view o) i) t c u ws) → (e : Refusal) → q ≡ Err e → Held o j
+  breaks_hold u p e err = holds {A = Unit {0}} o o i j p.1.0 _ (Err e) w held (breaks {A = Unit {0}} i o u ws tt w q j wrote (Err e) e err refl p.0 p.1.0 p.1.1)
 
 -- a call that only reads sectors
 module _ {A : Type 0} (i : Image) (o : Option Tables) (t : Tables) (is : o ≡ Some t) (c : Call) (a : A) (same : tables_after t c ≡ t) (none : sector_writes t c (tables_after t c) ≡ []) (passed : picked (checks t i c) ≡ None) (q : Result (Unit {0}) Refusal) (h : q ≡ unless_fault (reads (sector_reads t c) i).fault) (j : Image) (still : j ≡ i) (r : Result A Refusal) where
@@ -101,7 +127,7 @@ module _ {A : Type 0} (i : Image) (o : Option Tables) (t : Tables) (is : o ≡ S
       ∙ sym (ap (λ (x : Option Refusal). done x (on (Some t) i) t c) passed)
 
   acts : Result A Refusal → (r ≡ answer (turned_away (on (Some t) i) c) a) → Acts (on o i) c (answer (turned_away (on o i) c) a) r (on o j)
-  acts x e = subst (λ (y : Option Tables). Acts (on y i) c (answer (turned_away (on y i) c) a) r (on y j)) (sym is) (record { answer = e; after = stays_so; kept = λ k. subst (λ (y : Image). Kept (on (Some t) y)) (sym still) k })
+  acts x e = subst (λ (y : Option Tables). Acts (on y i) c (answer (turned_away (on y i) c) a) r (on y j)) (sym is) (record { answer = e; after = stays_so })
 
   pub looked : q ≡ Ok tt → r ≡ Ok a → Acts (on o i) c (answer (turned_away (on o i) c) a) r (on o j)
   looked ok e = acts r (e ∙ sym (ap (λ (x : Option Refusal). answer x a) (met_by None ((fault_of (reads (sector_reads t c) i).fault q h).0 ok))))

@@ -1,5 +1,5 @@
 -- Which stores are let in, and the volume that opening gives.
-use Rattle.std.proofs.Common.{◌≡◌, ℕ, Bool, true, false, cond, not, ltb, ◌↔◌, List, length, get_or, Some, None, Ok, Err, Option, Result, sym, refl, ap, ◌∙◌, subst, ap₂, arith}
+use Rattle.std.proofs.Common.{◌≡◌, ℕ, Bool, true, false, cond, not, ltb, ◌↔◌, List, length, get_or, Some, None, Ok, Err, Option, Result, MatchResult, sym, refl, ap, ◌∙◌, subst, ap₂, arith}
 use Rattle.model.specs.declared.types.Fault.{Fault}
 use Rattle.model.specs.declared.types.Refusal.{Refusal}
 use Rattle.model.specs.declared.types.Refusal.TheVariants.{Small as small, Unsound as unsound, Dead as dead}
@@ -11,7 +11,13 @@ use Rattle.model.specs.Answers.{answer, inspect_answer}
 use Rattle.model.specs.Tables.{Tables, load, alive, sound_by, sound}
 use Rattle.model.specs.Volume.{Volume, format_refusal, inspection, loaded_refusal, kept, opened, Kept}
 use Rattle.model.proofs.Consistent.{sound_alike}
+use Rattle.tables.specs.Views.{view}
+use Rattle.tables.specs.declared.consistent.Consistent.{Consistent}
 use Rattle.volume.specs.Blank.{Tells}
+
+-- the tables of a store that is let in, or the refusal of its inspection
+abbrev pub Admits : Image → Result Consistent Refusal → Type 0
+Admits i r = MatchResult r (λ (k : Consistent). (inspection i ≡ None) × (load i ≡ Ok (view k.tables))) (λ e. inspection i ≡ Some e)
 
 -- what refuses a format refuses an inspection
 pub refused_alike : (i : Image) (e : Refusal) → format_refusal i ≡ Some e → inspection i ≡ Some e

@@ -4,14 +4,13 @@ use Rattle.model.specs.Answers.{answer, turned_away, sector_reads}
 use Rattle.model.specs.Image.{Write}
 use Rattle.model.specs.Refusals.{Call, picked}
 use Rattle.model.specs.Tables.{Tables}
-use Rattle.model.specs.Volume.{Volume, checks, tables_after, sector_writes, after, Kept}
+use Rattle.model.specs.Volume.{Volume, checks, tables_after, sector_writes, after}
 use Rattle.model.specs.declared.types.Refusal.{Refusal}
 
--- r is the given answer and w the volume after the call c of the volume v; and a volume that is kept stays so
+-- r is the given answer and w the volume after the call c of the volume v
 pub record Acts {A : Type 0} (v : Volume) (c : Call) (given : Result A Refusal) (r : Result A Refusal) (w : Volume) : Type 0 where
   pub answer : r ≡ given
   pub after : w ≡ after v c
-  pub kept : Kept v → Kept w
 
 -- c is accepted on the tables t of v, reads no sector, leads to the tables u, and makes the writes ws
 pub record Planned (v : Volume) (t : Tables) (c : Call) (u : Tables) (ws : List Write) : Type 0 where

@@ -7,6 +7,7 @@ use Rattle.model.specs.Answers.{Listed as ModelListed}
 use Rattle.model.specs.Image.{Image}
 use Rattle.model.specs.Tables.{Tables as Model}
 use Rattle.model.specs.Volume.{Volume as ModelVolume}
+use Rattle.store.specs.declared.Store.{Ghosts}
 use Rattle.tables.specs.Plans.{listed_view}
 use Rattle.tables.specs.Views.{view}
 use Rattle.tables.specs.declared.consistent.Consistent.{Consistent}
@@ -17,8 +18,8 @@ abbrev pub kept_view : Option Consistent → Option Model
 kept_view None = None
 kept_view (Some c) = Some (view c.tables)
 
-abbrev pub volume_view : {S : Type 0} → (S → Image) → Volume S → ModelVolume
-volume_view image v = record { tables = kept_view v.tables; image = image v.store }
+abbrev pub volume_view : {S : Type 0} {g : Ghosts S} → Volume S g → ModelVolume
+volume_view {S} {g} v = record { tables = kept_view v.tables; image = g.image v.store }
 
 -- the allocation map, as an open volume shows it
 abbrev pub map_answer : ModelVolume → Result (List ℕ) Refusal

@@ -4,7 +4,7 @@ ghost use Rattle.model.specs.Answers.{inspect_answer};
 ghost use Rattle.model.specs.Meaning.{Carries};
 ghost use Rattle.model.specs.Tables.{load as tables_of};
 ghost use Rattle.model.specs.Tree.{is_some};
-ghost use Rattle.model.specs.Volume.{inspection, opened, Kept};
+ghost use Rattle.model.specs.Volume.{inspection, opened};
 ghost use Rattle.tables.specs.Views.{view};
 ghost use Rattle.volume.specs.Views.{volume_view, map_answer};
 
@@ -21,10 +21,7 @@ fn admitted<S: Store>(store: &mut S) -> Result<Consistent, Refusal>
 {
     let tables = load_checked(store)?;
     let dead = dead_sectors(store);
-    match Consistent::admit(tables, &dead) {
-        Some(kept) => Ok(kept),
-        None => Err(Refusal::Unsound),
-    }
+    Consistent::admit(tables, &dead).ok_or(Refusal::Unsound)
 }
 
 // Whether a volume on this store would be let in: nothing, or the refusal. The store stays as it is.
@@ -40,14 +37,10 @@ pub fn inspect<S: Store>(store: &mut S) -> Result<(), Refusal>
 impl<S: Store> Volume<S> {
     // Never refuses: over a store that `inspect` refuses the volume is shut.
     pub fn open(mut store: S) -> Volume<S>
-        ensures opened { volume_view S.image result ≡ opened (S.image store) }
-        ensures exactly { (is_some (volume_view S.image result).tables ≡ true) ↔ Carries (S.image store) }
-        ensures kept { Kept (volume_view S.image result) }
+        ensures opened { volume_view result ≡ opened (S.image store) }
+        ensures exactly { (is_some (volume_view result).tables ≡ true) ↔ Carries (S.image store) }
     {
-        let tables = match admitted(&mut store) {
-            Ok(kept) => Some(kept),
-            Err(_) => None,
-        };
+        let tables = admitted(&mut store).ok();
         Volume { store, tables }
     }
 
@@ -61,18 +54,22 @@ impl<S: Store> Volume<S> {
 
     // Whether every call is refused, since the store carries no sound volume.
     pub fn is_shut(&self) -> bool
-        ensures { result ≡ not (is_some (volume_view S.image self.now).tables) }
+        ensures { result ≡ not (is_some (volume_view self.now).tables) }
     {
         self.tables.is_none()
     }
 
     // The allocation map, a byte for each sector number: 0x00 free, 0xFF used or reserved, 0xFE dead.
     pub fn map(&self) -> Result<[u8; 512], Refusal>
-        ensures { result ≡ map_answer (volume_view S.image self.now) }
+        ensures { result ≡ map_answer (volume_view self.now) }
     {
-        let Some(kept) = &self.tables else {
-            return Err(Refusal::Shut);
-        };
-        Ok(kept.tables().map_sector())
+        Ok(self.kept()?.tables().map_sector())
+    }
+
+    // The tables, or the refusal of every call where there are none.
+    pub(crate) fn kept(&self) -> Result<&Consistent, Refusal>
+        ensures { MatchResult result (λ c. self.now.tables ≡ Some c.now) (λ e. (self.now.tables ≡ None) × (e ≡ Refusal.Shut)) }
+    {
+        self.tables.as_ref().ok_or(Refusal::Shut)
     }
 }

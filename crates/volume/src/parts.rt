@@ -2,9 +2,9 @@
 ghost use Rattle.std.specs.Prelude.{◌≡◌, ◌*◌, map, length};
 ghost use Rattle.model.specs.Image.{access, put};
 ghost use Rattle.model.specs.Tables.{used};
-ghost use Rattle.model.specs.Volume.{data_writes};
 ghost use Rattle.tables.specs.Views.{view};
 ghost use Rattle.volume.specs.Writing.{part_of, part_write, Wrote};
+ghost use Rattle.volume.specs.Contents.{contents_writes};
 
 use crate::sectors::{DIRS, FILES, MAP, ROWS};
 use model::types::{Fault, Kind, Refusal};
@@ -21,17 +21,19 @@ pub(crate) enum Part {
     Rows,
 }
 
-impl Part {
-    // The table that has the entries of a kind.
-    pub(crate) fn of(kind: Kind) -> Part
-        ensures { result ≡ part_of kind }
-    {
+// The table that has the entries of a kind.
+impl From<Kind> for Part {
+    ghost from_gives = { λ kind part. part ≡ part_of kind };
+
+    fn from(kind: Kind) -> Part {
         match kind {
             Kind::Directory => Part::Dirs,
             Kind::File => Part::Files,
         }
     }
+}
 
+impl Part {
     // Writes this table to its sector.
     fn write<S: Store>(self, tables: &Tables, store: &mut S) -> Result<(), Fault>
         ensures answer { result ≡ access (S.image store.old) (part_write (view tables.now) self).at }
@@ -44,6 +46,21 @@ impl Part {
             Part::Rows => store.write(ROWS, &tables.rows_sector()),
         }
     }
+}
+
+// The contents of a new file, and the row of the sectors that they go to.
+#[derive(Clone, Copy)]
+pub(crate) struct Contents<'a> {
+    pub row: Row,
+    pub bytes: &'a [u8],
+}
+
+impl Contents<'_> {
+    // Of a call that makes no file.
+    pub const NONE: Contents<'static> = Contents {
+        row: Row::EMPTY,
+        bytes: &[],
+    };
 }
 
 // Writes these tables, in their order.
@@ -61,11 +78,15 @@ pub(crate) fn write_parts<S: Store>(
 }
 
 // Writes the contents to the sectors that the row names, in their order.
-pub(crate) fn write_data<S: Store>(store: &mut S, row: &Row, contents: &[u8]) -> Result<(), Refusal>
-    requires { length contents.now ≡ 512 * length (used row.now.places) }
-    ensures { Wrote (S.image store.old) (data_writes (used row.now.places) contents.now) result (S.image store.new) }
+pub(crate) fn write_contents<S: Store>(
+    store: &mut S,
+    contents: &Contents<'_>,
+) -> Result<(), Refusal>
+    requires { length contents.now.bytes.now ≡ 512 * length (used contents.now.row.places) }
+    ensures { Wrote (S.image store.old) (contents_writes contents.now) result (S.image store.new) }
 {
-    let mut rest = contents;
+    let row = contents.row;
+    let mut rest = contents.bytes;
     for k in 0..row.count() {
         let Some((sector, more)) = rest.split_first_chunk::<SECTOR>() else {
             return Ok(());

@@ -15,12 +15,9 @@ use tables::sizes::SECTOR;
 impl<S: Store> Volume<S> {
     // Kind and number of the item that a path names; the empty path names the start, and the root is directory 0xFF.
     pub fn find(&self, start: u8, path: &[u8]) -> Result<(Kind, u8), Refusal>
-        ensures { result ≡ find_answer (volume_view S.image self.now) start path.now }
+        ensures { result ≡ find_answer (volume_view self.now) start path.now }
     {
-        let Some(kept) = &self.tables else {
-            return Err(Refusal::Shut);
-        };
-        kept.find(start, path)
+        self.kept()?.find(start, path)
     }
 
     // The least name in a directory that comes after the given bytes, with kind and number, or none at the end.
@@ -30,22 +27,17 @@ impl<S: Store> Volume<S> {
         path: &[u8],
         after: &[u8],
     ) -> Result<Option<Listed<'a>>, Refusal>
-        ensures { listed_answer result ≡ next_answer (volume_view S.image self.now) start path.now after.now }
+        ensures { listed_answer result ≡ next_answer (volume_view self.now) start path.now after.now }
     {
-        let Some(kept) = &self.tables else {
-            return Err(Refusal::Shut);
-        };
-        kept.next(start, path, after)
+        self.kept()?.next(start, path, after)
     }
 
     // Copies the file's sectors to the front of the buffer, whose rest stays; answers how many.
     pub fn read(&mut self, start: u8, path: &[u8], buffer: &mut [u8]) -> Result<usize, Refusal>
-        ensures acts { Acts (volume_view S.image self.old) (read start path.now buffer.old) (read_answer (volume_view S.image self.old) start path.now buffer.old) result (volume_view S.image self.new) }
-        ensures buffer { buffer.new ≡ read_buffer (volume_view S.image self.old) start path.now buffer.old }
+        ensures acts { Acts (volume_view self.old) (read start path.now buffer.old) (read_answer (volume_view self.old) start path.now buffer.old) result (volume_view self.new) }
+        ensures buffer { buffer.new ≡ read_buffer (volume_view self.old) start path.now buffer.old }
     {
-        let Some(kept) = &self.tables else {
-            return Err(Refusal::Shut);
-        };
+        let kept = self.kept()?;
         let number = kept.file(start, path)?;
         let row = kept.tables().rows[number as usize];
         let count = row.count();

@@ -18,7 +18,7 @@ use Rattle.tables.specs.declared.types.Row.{Row}
 use Rattle.tables.specs.declared.types.Tables.{Tables}
 use Rattle.volume.specs.Views.{kept_view}
 use Rattle.volume.specs.Writing.{Filled}
-use Rattle.volume.proofs.Acting.{refused, looked, unread, filled-buffer, left_buffer}
+use Rattle.volume.proofs.Acting.{Held, refused, looked, unread, filled-buffer, left_buffer}
 use Rattle.volume.proofs.Admitting.{on}
 use Rattle.volume.proofs.types.Volume.read.Goals as goal
 
@@ -43,15 +43,15 @@ pub returns-in_err-number : goal.returns-in_err-number
 returns-in_err-number g c =
     let i = g.S.Store.image c.args.self.now.store in
     let o = kept_view c.args.self.now.tables in
-    let t = view c.in-Some.kept.tables in
-    let is = ap kept_view c.in-Some.is in
+    let t = view c.in_ok-kept.kept.now.tables in
+    let is = ap kept_view c.in_ok-kept.ensures in
     let d = c.args.start in
     let p = c.args.path.now in
     let b = c.args.buffer.now in
     let e = c.in_err-number.field-0.0 in
     let refuses : picked (checks t i (read d p b)) ≡ Some e = front_stopped (there file t d p) (check (ltb (length b) (512 * length (places t d p))) size ∷ []) e c.in_err-number.ensures in
-    let x = err_from_is_err_and c.from_residual.result c.from_residual.ensures.1 in
-    record { acts = refused i o t is (read d p b) (count i o d p) e c.from_residual.result refuses (x.1 ∙ ap Err x.2); buffer = left_buffer i o t is d p b e refuses }
+    let x = err_from_is_err_and c.from_residual-in_err-number.result c.from_residual-in_err-number.ensures.1 in
+    record { acts = refused i o t is (read d p b) (count i o d p) e c.from_residual-in_err-number.result refuses (x.1 ∙ ap Err x.2); buffer = left_buffer i o t is d p b e refuses }
 
 pub overflow_mul-count : goal.overflow_mul-count
 overflow_mul-count g c =
@@ -65,9 +65,9 @@ pub returns-then-buffer-count : goal.returns-then-buffer-count
 returns-then-buffer-count g c =
     let i = g.S.Store.image c.args.self.now.store in
     let o = kept_view c.args.self.now.tables in
-    let k = c.in-Some.kept.tables in
+    let k = c.in_ok-kept.kept.now.tables in
     let t = view k in
-    let is = ap kept_view c.in-Some.is in
+    let is = ap kept_view c.in_ok-kept.ensures in
     let d = c.args.start in
     let p = c.args.path.now in
     let b = c.args.buffer.now in
@@ -77,13 +77,16 @@ returns-then-buffer-count g c =
     let refuses = short-buffer t i d p b there_is.0 (let l = c.if-buffer-count.true in omega arith) in
     record { acts = refused i o t is (read d p b) (count i o d p) size (Err size) refuses refl; buffer = left_buffer i o t is d p b size refuses }
 
+pub invariant_of-self : goal.invariant_of-self
+invariant_of-self g c = record { kept = subst (λ (i : Image). Held c.args.self.now.tables i) (sym c.read_row.ensures.image) c.args.self.now.kept }
+
 pub returns-in_err-read_row : goal.returns-in_err-read_row
 returns-in_err-read_row g c =
     let i = g.S.Store.image c.args.self.now.store in
     let o = kept_view c.args.self.now.tables in
-    let k = c.in-Some.kept.tables in
+    let k = c.in_ok-kept.kept.now.tables in
     let t = view k in
-    let is = ap kept_view c.in-Some.is in
+    let is = ap kept_view c.in_ok-kept.ensures in
     let d = c.args.start in
     let p = c.args.path.now in
     let b = c.args.buffer.now in
@@ -102,9 +105,9 @@ pub returns : goal.returns
 returns g c =
     let i = g.S.Store.image c.args.self.now.store in
     let o = kept_view c.args.self.now.tables in
-    let k = c.in-Some.kept.tables in
+    let k = c.in_ok-kept.kept.now.tables in
     let t = view k in
-    let is = ap kept_view c.in-Some.is in
+    let is = ap kept_view c.in_ok-kept.ensures in
     let d = c.args.start in
     let p = c.args.path.now in
     let b = c.args.buffer.now in
