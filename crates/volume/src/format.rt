@@ -8,10 +8,11 @@ ghost use Rattle.volume.specs.Blank.{blank_byte, Bare};
 use crate::sectors::{DIRS, FILES, MAP, ROWS, dead_sectors, load_checked};
 use model::types::Refusal;
 use store::Store;
+use tables::sizes::{FIRST_DATA, LAST_DATA, SECTOR};
 use tables::types::Mark;
 
 // A table with nothing in it.
-const BLANK: [u8; 512] = [0; 512];
+const BLANK: [u8; SECTOR] = [0; SECTOR];
 
 // Makes an empty volume: the map with nothing used, and three tables of 0x00. Refused, it leaves the store.
 pub fn format<S: Store>(store: &mut S) -> Result<(), Refusal>
@@ -29,7 +30,7 @@ pub fn format<S: Store>(store: &mut S) -> Result<(), Refusal>
 }
 
 // The map with nothing used.
-fn blank_map(dead: &[bool; 256]) -> [u8; 512]
+fn blank_map(dead: &[bool; 256]) -> [u8; SECTOR]
     ensures { result ≡ from_to 0 512 (blank_byte dead.now) }
 {
     let mut map = BLANK;
@@ -43,9 +44,9 @@ fn blank_map(dead: &[bool; 256]) -> [u8; 512]
 fn blank_byte(dead: &[bool; 256], sector: usize) -> Mark
     ensures { result.0 ≡ blank_byte dead.now sector }
 {
-    if sector < 0x0b {
+    if sector < usize::from(FIRST_DATA) {
         Mark::USED
-    } else if sector > 0xff {
+    } else if sector > usize::from(LAST_DATA) {
         Mark::FREE
     } else if dead[sector] {
         Mark::DEAD

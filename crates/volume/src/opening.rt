@@ -1,5 +1,6 @@
 // Letting a store in, and handing it back.
 ghost use Rattle.std.specs.Prelude.{◌≡◌, true, not, ◌↔◌, Some, None, Ok, MatchResult};
+ghost use Rattle.std.specs.Result.{is_err};
 ghost use Rattle.model.specs.Answers.{inspect_answer};
 ghost use Rattle.model.specs.Meaning.{Carries};
 ghost use Rattle.model.specs.Tables.{load as tables_of};
@@ -13,6 +14,7 @@ use crate::types::Volume;
 use model::types::Refusal;
 use store::Store;
 use tables::consistent::Consistent;
+use tables::sizes::SECTOR;
 
 // The tables of a store that carries a sound volume, or why it does not. Each sector is read once.
 fn admitted<S: Store>(store: &mut S) -> Result<Consistent, Refusal>
@@ -56,11 +58,11 @@ impl<S: Store> Volume<S> {
     pub fn is_shut(&self) -> bool
         ensures { result ≡ not (is_some (volume_view self.now).tables) }
     {
-        self.tables.is_none()
+        self.kept().is_err()
     }
 
     // The allocation map, a byte for each sector number: 0x00 free, 0xFF used or reserved, 0xFE dead.
-    pub fn map(&self) -> Result<[u8; 512], Refusal>
+    pub fn map(&self) -> Result<[u8; SECTOR], Refusal>
         ensures { result ≡ map_answer (volume_view self.now) }
     {
         Ok(self.kept()?.tables().map_sector())
@@ -68,7 +70,8 @@ impl<S: Store> Volume<S> {
 
     // The tables, or the refusal of every call where there are none.
     pub(crate) fn kept(&self) -> Result<&Consistent, Refusal>
-        ensures { MatchResult result (λ c. self.now.tables ≡ Some c.now) (λ e. (self.now.tables ≡ None) × (e ≡ Refusal.Shut)) }
+        ensures tables { MatchResult result (λ c. self.now.tables ≡ Some c.now) (λ e. (self.now.tables ≡ None) × (e ≡ Refusal.Shut)) }
+        ensures shut { is_err result ≡ not (is_some (volume_view self.now).tables) }
     {
         self.tables.as_ref().ok_or(Refusal::Shut)
     }

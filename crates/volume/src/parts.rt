@@ -12,7 +12,7 @@ use store::Store;
 use tables::sizes::SECTOR;
 use tables::types::{Row, Tables};
 
-// One of the four tables.
+// One of the four tables. An enum, not a closure for each: contracts compare a list of them with the order of writes.
 #[derive(Clone, Copy)]
 pub(crate) enum Part {
     Map,
@@ -87,6 +87,7 @@ pub(crate) fn write_contents<S: Store>(
 {
     let row = contents.row;
     let mut rest = contents.bytes;
+    // by index: a rule of the project has a row's places walked so
     for k in 0..row.count() {
         let Some((sector, more)) = rest.split_first_chunk::<SECTOR>() else {
             return Ok(());

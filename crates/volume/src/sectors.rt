@@ -9,7 +9,7 @@ ghost use Rattle.volume.specs.Writing.{Filled};
 
 use model::types::{Fault, Refusal};
 use store::Store;
-use tables::sizes::SECTOR;
+use tables::sizes::{FIRST_DATA, SECTOR};
 use tables::types::{Row, Tables};
 
 // The sectors of the four tables, and the sectors that a volume needs.
@@ -23,11 +23,11 @@ pub const ROWS: u16 = 0x103;
 
 pub const LEAST_SECTORS: u16 = 260;
 
-fn read_sector<S: Store>(store: &mut S, sector: u16) -> Result<[u8; 512], Fault>
+fn read_sector<S: Store>(store: &mut S, sector: u16) -> Result<[u8; SECTOR], Fault>
     ensures answer { result ≡ look (S.image store.old) sector }
     ensures image { S.image store.new ≡ S.image store.old }
 {
-    let mut buffer = [0; 512];
+    let mut buffer = [0; SECTOR];
     store.read(sector, &mut buffer)?;
     Ok(buffer)
 }
@@ -38,6 +38,7 @@ pub(crate) fn read_row<S: Store>(store: &mut S, row: &Row, buffer: &mut [u8]) ->
     ensures filled { Filled (S.image store.old) (used row.now.places) buffer.old result buffer.new }
     ensures image { S.image store.new ≡ S.image store.old }
 {
+    // by index: a rule of the project has a row's places walked so
     for k in 0..row.count() {
         let sector = read_sector(store, u16::from(row.places[k]))?;
         let at = SECTOR * k;
@@ -66,8 +67,7 @@ pub(crate) fn load_checked<S: Store>(store: &mut S) -> Result<Tables, Refusal>
     if store.size() < LEAST_SECTORS {
         return Err(Refusal::Small);
     }
-    let tables = load(store)?;
-    Ok(tables)
+    Ok(load(store)?)
 }
 
 // Which data sectors are dead: each is read once.
@@ -76,8 +76,8 @@ pub(crate) fn dead_sectors<S: Store>(store: &mut S) -> [bool; 256]
     ensures image { S.image store.new ≡ S.image store.old }
 {
     let mut dead = [false; 256];
-    let mut buffer = [0; 512];
-    for s in 0x0b..256u16 {
+    let mut buffer = [0; SECTOR];
+    for s in u16::from(FIRST_DATA)..256 {
         dead[usize::from(s)] = store.read(s, &mut buffer).is_err();
     }
     dead

@@ -5,7 +5,10 @@ use Rattle.volume.proofs.Probes.{Told, probe, told_none, told_more, told-all}
 use Rattle.volume.proofs.sectors.dead_sectors.Goals as goal
 
 pub loop-s-init : goal.loop-s-init
-loop-s-init g c = (refl, refl, told_none (replicate 256 false) (g.S.Store.image c.args.store.now))
+loop-s-init g c =
+    let dead = replicate 256 false in
+    let i = g.S.Store.image c.args.store.now in
+    (refl, refl, subst (Told dead i) (sym c.from-s.ensures) (told_none dead i))
 
 pub loop-s-preserved : goal.loop-s-preserved
 loop-s-preserved g c =

@@ -19,18 +19,18 @@ returns-in_err-made g c =
     let i = g.S.Store.image c.args.self.now.store in
     let o = kept_view c.args.self.now.tables in
     let p = err_from_is_err_and c.from_residual-in_err-made.result c.from_residual-in_err-made.ensures.1 in
-    refused i o (view c.in_ok-kept.field-0.now.tables) (ap kept_view c.in_ok-kept.ensures) (mkdir c.args.start c.args.path.now) (of_tables (on o i) 0 lowest) c.in_err-made.field-0.0 c.from_residual-in_err-made.result (c.in_err-made.ensures i) (p.1 ∙ ap Err p.2)
+    refused i o (view c.in_ok-kept.field-0.now.tables) (ap kept_view c.in_ok-kept.ensures.tables) (mkdir c.args.start c.args.path.now) (of_tables (on o i) 0 lowest) c.in_err-made.field-0.0 c.from_residual-in_err-made.result (c.in_err-made.ensures i) (p.1 ∙ ap Err p.2)
 
 pub commit-requires-clause-planned : goal.commit-requires-clause-planned
 commit-requires-clause-planned g c =
     let plan = c.in_ok-made.ensures (g.S.Store.image c.args.self.now.store) in
-    (view c.in_ok-kept.field-0.now.tables, (mkdir c.args.start c.args.path.now, record { stands = ap kept_view c.in_ok-kept.ensures; passed = plan.0; quiet = refl; leads = plan.1.0; makes = ap (λ (u : Tables). dirs_write u ∷ []) plan.1.0 }))
+    (view c.in_ok-kept.field-0.now.tables, (mkdir c.args.start c.args.path.now, record { stands = ap kept_view c.in_ok-kept.ensures.tables; passed = plan.0; quiet = refl; leads = plan.1.0; makes = ap (λ (u : Tables). dirs_write u ∷ []) plan.1.0 }))
 
 pub returns : goal.returns
 returns g c =
     let i = g.S.Store.image c.args.self.now.store in
     let o = kept_view c.args.self.now.tables in
-    let is = ap kept_view c.in_ok-kept.ensures in
+    let is = ap kept_view c.in_ok-kept.ensures.tables in
     let call = mkdir c.args.start c.args.path.now in
     let plan = c.in_ok-made.ensures i in
     let number = plan.1.1 ∙ sym (ap (λ (y : Option Tables). of_tables (on y i) 0 lowest) is) in

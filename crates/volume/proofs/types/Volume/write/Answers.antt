@@ -43,7 +43,7 @@ returns-in_err-made g c =
     let i = g.S.Store.image c.args.self.now.store in
     let o = kept_view c.args.self.now.tables in
     let p = err_from_is_err_and c.from_residual-in_err-made.result c.from_residual-in_err-made.ensures.1 in
-    refused i o (view c.in_ok-kept.field-0.now.tables) (ap kept_view c.in_ok-kept.ensures) (write c.args.start c.args.path.now c.args.contents.now) (of_tables (on o i) 0 lowest) c.in_err-made.field-0.0 c.from_residual-in_err-made.result (c.in_err-made.ensures i) (p.1 ∙ ap Err p.2)
+    refused i o (view c.in_ok-kept.field-0.now.tables) (ap kept_view c.in_ok-kept.ensures.tables) (write c.args.start c.args.path.now c.args.contents.now) (of_tables (on o i) 0 lowest) c.in_err-made.field-0.0 c.from_residual-in_err-made.result (c.in_err-made.ensures i) (p.1 ∙ ap Err p.2)
 
 pub commit-requires-clause-filled : goal.commit-requires-clause-filled
 commit-requires-clause-filled g c =
@@ -55,14 +55,14 @@ commit-requires-clause-planned g c =
     let i = g.S.Store.image c.args.self.now.store in
     let t = view c.in_ok-kept.field-0.now.tables in
     let plan = c.in_ok-made.ensures i in
-    (t, (write c.args.start c.args.path.now c.args.contents.now, plan_of (volume_view c.args.self.now) t c.args.start c.args.path.now c.args.contents.now c.in_ok-made.made c.tables.result.now c.index-tables-made.result (ap kept_view c.in_ok-kept.ensures) plan.0 plan.1 c.tables.ensures))
+    (t, (write c.args.start c.args.path.now c.args.contents.now, plan_of (volume_view c.args.self.now) t c.args.start c.args.path.now c.args.contents.now c.in_ok-made.made c.tables.result.now c.index-tables-made.result (ap kept_view c.in_ok-kept.ensures.tables) plan.0 plan.1 c.tables.ensures))
 
 pub returns : goal.returns
 returns g c =
     let i = g.S.Store.image c.args.self.now.store in
     let o = kept_view c.args.self.now.tables in
     let t = view c.in_ok-kept.field-0.now.tables in
-    let is = ap kept_view c.in_ok-kept.ensures in
+    let is = ap kept_view c.in_ok-kept.ensures.tables in
     let call = write c.args.start c.args.path.now c.args.contents.now in
     let plan = c.in_ok-made.ensures i in
     let number = plan.1.number ∙ sym (ap (λ (y : Option Model). of_tables (on y i) 0 lowest) is) in
