@@ -1,6 +1,7 @@
 pub mod Sizes
 pub mod Image
 pub mod Refusals
+pub mod Printing
 pub mod Names
 pub mod Tables
 pub mod Tree
