@@ -1,11 +1,10 @@
 -- The least name after given bytes, and a list taken in order by it.
 use Rattle.std.proofs.Common.{◌≡◌, ℕ, zero, suc, ◌+◌, ◌<◌, ◌≤◌, Bool, true, false, cond, ◌⊎◌, ◌↔◌, List, [], ◌∷◌, length, Some, None, Option, sym, refl, ap, ◌∙◌, subst, inl, inr, arith}
-use Rattle.std.proofs.lemmas.Bool.{both_ways}
+use Rattle.std.proofs.lemmas.Bool.{both_ways, false_from_ne_true}
 use Rattle.model.specs.Names.{Name, before}
 use Rattle.model.specs.Answers.{Listed, lesser, least_after}
 use Rattle.model.specs.Order.{In, Apart, Least, and_on, in_order}
 use Rattle.model.proofs.Common.Lists.{Pairs}
-use Rattle.model.proofs.Common.Tests.{refute}
 use Rattle.model.proofs.Naming.Orders.{before_irrefl, before_trans, before_tri}
 
 abbrev NoneAfter : Name → List Listed → Type 0
@@ -29,7 +28,7 @@ said_cons a x xs true e (Some z) h = go (before x.name z.name) refl
       where
         below : (y : Listed) → In y (x ∷ xs) → before a y.name ≡ true → before y.name x.name ≡ false
         below y (inl i) k = ap (λ (z : Listed). before z.name x.name) i ∙ before_irrefl x.name
-        below y (inr i) k = refute (before y.name x.name) (λ g. both_ways (before y.name z.name) (h.least y i k) (before_trans y.name x.name z.name g f))
+        below y (inr i) k = false_from_ne_true (before y.name x.name) (λ g. both_ways (before y.name z.name) (h.least y i k) (before_trans y.name x.name z.name g f))
     go false f = record { one_of = inr h.one_of; after = h.after; least = below }
       where
         below : (y : Listed) → In y (x ∷ xs) → before a y.name ≡ true → before y.name z.name ≡ false

@@ -1,5 +1,6 @@
 -- What format leaves: tables with no item, and a bare tree.
 use Rattle.std.proofs.Common.{◌≡◌, ℕ, zero, suc, ◌+◌, ◌-◌, ◌*◌, ◌<◌, ◌≤◌, Bool, true, false, cond, ltb, List, [], ◌∷◌, map, length, get_or, replicate, Some, None, Ok, Err, Option, Result, sym, refl, ap, ◌∙◌, subst, ap₂, arith}
+use Rattle.std.proofs.lemmas.Option.{none-some}
 use Rattle.std.proofs.lemmas.List.{drop-replicate, get_or-replicate, length-replicate, take-replicate}
 use Rattle.std.proofs.lemmas.Bool.{both_ways, le-ltb, lt-ltb, ltb-false}
 use Rattle.model.specs.Image.{Fault, Image, look, is_ok, Write}
@@ -10,7 +11,6 @@ use Rattle.model.specs.Volume.{dir_items, file_items, tree_of}
 use Rattle.model.specs.Sound.{Shaped}
 use Rattle.model.specs.Law.{from_to, blank_mark, format_refusal, format_writes}
 use Rattle.model.proofs.Common.Lists.{length_from, get_or_from, map-replicate}
-use Rattle.model.proofs.Common.Tests.{no_some}
 use Rattle.model.proofs.Store.Writes.{Able}
 use Rattle.model.proofs.Tables.Loads.{Holds, holds_after, Next}
 use Rattle.model.proofs.Tables.Rules.{data_range}
@@ -22,8 +22,8 @@ pub loads : (i : Image) → format_refusal i ≡ None → (260 ≤ length i) × 
 loads i h = go (ltb (length i) 260) refl (load i) refl h
   where
     go : (b : Bool) → ltb (length i) 260 ≡ b → (l : Result Tables Fault) → load i ≡ l → cond b (Some small) (elim l as (λ _. Option Refusal) [ Err f ↦ Some (dead f) | Ok t ↦ None ]) ≡ None → (260 ≤ length i) × ((t : Tables) × (load i ≡ Ok t))
-    go true p l q k = absurd (no_some small (sym k))
-    go false p (Err f) q k = absurd (no_some (dead f) (sym k))
+    go true p l q k = absurd (none-some small (sym k))
+    go false p (Err f) q k = absurd (none-some (dead f) (sym k))
     go false p (Ok t) q k = (ltb-false (length i) 260 p, (t, q))
 
 abbrev zero_row : List ℕ

@@ -1,13 +1,12 @@
 -- Marks, files and rows: what a new file and what a removal keep.
 use Rattle.std.proofs.Common.{◌≡◌, ℕ, ◌<◌, ◌≤◌, Bool, true, false, ◌⊎◌, List, [], length, get_or, set, sym, refl, ap, ◌∙◌, subst, inl, inr, arith}
 use Rattle.std.proofs.lemmas.List.{get_or-set_other, get_or-set_same}
-use Rattle.std.proofs.lemmas.Bool.{both_ways, cases_Bool, cases_eq}
+use Rattle.std.proofs.lemmas.Bool.{both_ways, cases_Bool, cases_eq, false_from_ne_true}
 use Rattle.model.specs.Image.{Image, look, is_ok}
 use Rattle.model.specs.Tables.{Entry, Tables, no_entry, live, used, data_sector, live_places, member, distinct}
 use Rattle.model.specs.Volume.{marked}
 use Rattle.model.specs.Sound.{Shaped, Live, ProperRow, Sound}
 use Rattle.model.proofs.Common.Members.{member-at, at-member, distinct-at}
-use Rattle.model.proofs.Common.Tests.{refute}
 use Rattle.model.proofs.Tables.Chains.{climbs-within}
 use Rattle.model.proofs.Tables.Places.{used-at, marked_in, marked_out, named-member, member-named}
 use Rattle.model.proofs.Tables.Rules.{data_range}
@@ -40,7 +39,7 @@ module _ (i : Image) (t : Tables) (shaped : Shaped t) where
         beyond = s.beyond;
         dead_marked = s.dead_marked;
         used_marked = λ x f j d o n. s.used_marked x d o (named-member t shaped f j x n);
-        free_marked = λ x d o none. s.free_marked x d o (refute (member x (live_places t.files t.rows)) (λ m. let q = member-named t shaped x m in none q.0 q.1 q.2));
+        free_marked = λ x d o none. s.free_marked x d o (false_from_ne_true (member x (live_places t.files t.rows)) (λ m. let q = member-named t shaped x m in none q.0 q.1 q.2));
         rows_proper = s.rows_proper;
         places_apart = s.places_apart;
       }
@@ -104,7 +103,7 @@ module _ (i : Image) (ms : List ℕ) (fs fs' : List Entry) (rs : List (List ℕ)
   out_data s m = let q = out-from s m in site_stored i ms fs rs r q.0 q.1 s q.2
 
   keeps : (s : ℕ) → (member s out ≡ true → ⊥) → get_or (marked out 0 ms) s 1 ≡ get_or ms s 1
-  keeps s h = marked_out out 0 ms s (refute (member s out) h)
+  keeps s h = marked_out out 0 ms s (false_from_ne_true (member s out) h)
 
   site_out : (f j s : ℕ) → Site fs' rs f j s → member s out ≡ true → ⊥
   site_out f j s n m =
@@ -184,7 +183,7 @@ module _ (i : Image) (ms : List ℕ) (fs : List Entry) (rs : List (List ℕ)) (l
       (small, ap live file_new ∙ lives, subst (λ x. j < length (used x)) (sym row_new) l₁, ap (λ x. get_or x j 0) row_new ∙ (sym (used-at new j l₁) ∙ (ap (λ x. get_or x j 0) new-used ∙ q)))
 
   still : (s : ℕ) → (member s ss ≡ true → ⊥) → get_or (marked ss 0xff ms) s 1 ≡ get_or ms s 1
-  still s h = marked_out ss 0xff ms s (refute (member s ss) h)
+  still s h = marked_out ss 0xff ms s (false_from_ne_true (member s ss) h)
 
   in_map : (s : ℕ) → data_sector s ≡ true → s < length ms
   in_map s d = let u = data_range s d in omega (arith, u.1, long)

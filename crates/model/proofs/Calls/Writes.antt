@@ -1,7 +1,7 @@
 -- What write leaves: a new file with its row and its sectors.
 use Rattle.std.proofs.Common.{◌≡◌, ℕ, zero, suc, ◌+◌, ◌-◌, ◌*◌, ◌%◌, ◌<◌, ◌≤◌, true, false, ◌&&◌, eqb, leb, ◌⊎◌, List, [], ◌∷◌, ◌++◌, length, get_or, set, replicate, Some, None, sym, refl, ap, ◌∙◌, subst, inl, inr, arith}
 use Rattle.std.proofs.lemmas.List.{get_or-append_right, get_or-set_other, get_or-set_same, length-append, length-replicate, length-set}
-use Rattle.std.proofs.lemmas.Bool.{and_parts, cases_eq, leb-true}
+use Rattle.std.proofs.lemmas.Bool.{and_parts, cases_eq, leb-true, false_from_ne_true}
 use Rattle.model.specs.Image.{Image, is_ok, Write, writes}
 use Rattle.model.specs.Refusals.{entries as full, lost, misspelt, sectors, size, start, taken, write, picked}
 use Rattle.model.specs.Names.{names, spelt}
@@ -11,7 +11,7 @@ use Rattle.model.specs.History.{whole_sectors}
 use Rattle.model.specs.Volume.{holder, named, checks, starts, leads, free_entry, room_for, marked, or_zero, new_entry, given, tables_after, data_writes, map_write, files_write, rows_write, sector_writes}
 use Rattle.model.specs.Sound.{Shaped, ProperRow, Sound}
 use Rattle.model.proofs.Common.Members.{at-member}
-use Rattle.model.proofs.Common.Tests.{refute, some_out, none_out}
+use Rattle.model.proofs.Common.Tests.{some_out, none_out}
 use Rattle.model.proofs.Store.Bodies.{data_able, left_data}
 use Rattle.model.proofs.Store.Writes.{Able, able_append}
 use Rattle.model.proofs.Tables.Climbs.{Place}
@@ -103,7 +103,7 @@ module _ (i : Image) (t : Tables) (shaped : Shaped t) (holds : Holds i t) (facts
   all_able = able_append i (data_writes ss w) (tail (filled t j e ss)) (data_able i ss w (λ s m. (spare s m).alive) fits) tail_able
 
   not-given : (x : ℕ) → 0x100 ≤ x → member x ss ≡ false
-  not-given x l = refute (member x ss) (λ m. high (spare x m).most)
+  not-given x l = false_from_ne_true (member x ss) (λ m. high (spare x m).most)
     where
       high : x ≤ 0xff → ⊥
       high b = omega arith

@@ -1,8 +1,8 @@
 -- Numbers in a list, and lists in which no number stands twice.
 use Rattle.std.proofs.Common.{◌≡◌, ℕ, zero, suc, ◌<◌, Bool, true, false, not, ◌&&◌, ◌||◌, eqb, List, [], ◌∷◌, ◌++◌, length, get_or, take, sym, refl, ap, ◌∙◌, subst, arith}
-use Rattle.std.proofs.lemmas.Bool.{and_from, and_parts, both_ways, eq-eqb, eqb-true, false≢true, not_from_false, not-true, or_from, or_left, or_parts, or_right}
+use Rattle.std.proofs.lemmas.Bool.{and_from, and_parts, both_ways, eq-eqb, eqb-true, false≢true, not_from_false, not-true, or_from, or_left, or_parts, or_right, false_from_ne_true}
 use Rattle.model.specs.Tables.{member, distinct}
-use Rattle.model.proofs.Common.Tests.{refute}
+
 
 pub member-append : (s : ℕ) (xs ys : List ℕ) → member s (xs ++ ys) ≡ (member s xs || member s ys)
 member-append s [] ys = refl
@@ -78,4 +78,4 @@ take-distinct zero xs h = refl
 take-distinct (suc n) [] h = refl
 take-distinct (suc n) (y ∷ xs) h =
     let a = and_parts (not (member y xs)) (distinct xs) h in
-    and_from (not (member y (take n xs))) (distinct (take n xs)) (not_from_false (member y (take n xs)) (refute (member y (take n xs)) (λ k. both_ways (member y xs) (not-true (member y xs) a.0) (take-member n y xs k)))) (take-distinct n xs a.1)
+    and_from (not (member y (take n xs))) (distinct (take n xs)) (not_from_false (member y (take n xs)) (false_from_ne_true (member y (take n xs)) (λ k. both_ways (member y xs) (not-true (member y xs) a.0) (take-member n y xs k)))) (take-distinct n xs a.1)

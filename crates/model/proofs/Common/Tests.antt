@@ -6,18 +6,11 @@ use Rattle.model.specs.Tree.{is_some}
 
 -- tests --------------------------------------------------------------------------------------------
 
-pub refute : (b : Bool) → (b ≡ true → ⊥) → b ≡ false
-refute true h = absurd (h refl)
-refute false h = refl
-
 pub decide_by : {A : Type 0} (b : Bool) → (b ≡ true → A) → (A → b ≡ true) → A ⊎ (A → ⊥)
 decide_by true f g = inl (f refl)
 decide_by false f g = inr (λ a. false≢true (g a))
 
 -- options ------------------------------------------------------------------------------------------
-
-pub no_some : {A : Type 0} (a : A) → ◌≡◌ {A = Option A} None (Some a) → ⊥
-no_some a e = let z : ◌≡◌ {A = ℕ} 0 1 = cc in omega arith
 
 pub some_out : {A : Type 0} (o : Option A) → is_some o ≡ true → (a : A) × (o ≡ Some a)
 some_out None e = absurd (false≢true e)
@@ -26,11 +19,6 @@ some_out (Some a) e = (a, refl)
 pub none_out : {A : Type 0} (o : Option A) → is_some o ≡ false → o ≡ None
 none_out None h = refl
 none_out (Some a) h = absurd (both_ways true h refl)
-
-pub tests_alike : (x y : Bool) → (x ≡ true → y ≡ true) → (y ≡ true → x ≡ true) → x ≡ y
-tests_alike true y f g = sym (f refl)
-tests_alike false true f g = g refl
-tests_alike false false f g = refl
 
 pub and_given : (x y z : Bool) → x ≡ true → (x && y) ≡ z → y ≡ z
 and_given true y z e h = h

@@ -1,9 +1,9 @@
 -- Equal names and paths, a path within another, and a path that is carried along.
 use Rattle.std.proofs.Common.{◌≡◌, ℕ, ◌≤◌, Bool, true, false, cond, ◌&&◌, ◌||◌, eqb, List, [], ◌∷◌, ◌++◌, length, drop, sym, refl, ap, ◌∙◌, ap₂, arith}
 use Rattle.std.proofs.lemmas.List.{append_assoc, append-nil, drop_all, drop-append-le}
-use Rattle.std.proofs.lemmas.Bool.{and_from, and_parts, eq-eqb, eqb-true, false≢true, or_right}
+use Rattle.std.proofs.lemmas.Bool.{and_from, and_parts, eq-eqb, eqb-true, false≢true, or_right, false_from_ne_true}
 use Rattle.model.specs.Names.{Name, Path, same_name, same_path, within}
-use Rattle.model.proofs.Common.Tests.{refute}
+
 
 -- equality of names and paths ---------------------------------------------------------------------
 
@@ -71,14 +71,14 @@ within-length (n ∷ p) [] e = absurd (false≢true e)
 within-length (n ∷ p) (m ∷ q) e = let h = within-length p q (and_parts (same_name n m) (within p q) e).1 in omega arith
 
 pub not_same : (p q : Path) → (p ≡ q → ⊥) → same_path p q ≡ false
-not_same p q h = refute (same_path p q) (λ e. h (same_path_true p q e))
+not_same p q h = false_from_ne_true (same_path p q) (λ e. h (same_path_true p q e))
 
 -- a path that is not p is within p exactly if its directory is
 pub within_deeper : (p q : Path) (m : Name) → (p ≡ q ++ m ∷ [] → ⊥) → within p (q ++ m ∷ []) ≡ within p q
 within_deeper p q m h = within_push p q m ∙ ap (λ b. b || within p q) (not_same p (q ++ m ∷ []) h)
 
 pub within-up : (p q : Path) (m : Name) → within p (q ++ m ∷ []) ≡ false → within p q ≡ false
-within-up p q m h = refute (within p q) (λ e. let z : true ≡ false = sym (ap (λ b. same_path p (q ++ m ∷ []) || b) e ∙ or_right (same_path p (q ++ m ∷ [])) true refl) ∙ sym (within_push p q m) ∙ h in false≢true (sym z))
+within-up p q m h = false_from_ne_true (within p q) (λ e. let z : true ≡ false = sym (ap (λ b. same_path p (q ++ m ∷ []) || b) e ∙ or_right (same_path p (q ++ m ∷ [])) true refl) ∙ sym (within_push p q m) ∙ h in false≢true (sym z))
 
 -- a path that is carried along ---------------------------------------------------------------------
 

@@ -1,10 +1,9 @@
 -- A way up to the root is never longer than 32 steps.
 use Rattle.std.proofs.Common.{◌≡◌, ℕ, zero, suc, ◌≤◌, true, false, cond, not, eqb, ◌⊎◌, List, [], ◌∷◌, length, sym, refl, ap, ◌∙◌, subst, inl, inr, arith}
-use Rattle.std.proofs.lemmas.Bool.{and_from, both_ways, eq-eqb, eqb-true, ne_eqb, not_from_false, or_cases}
+use Rattle.std.proofs.lemmas.Bool.{and_from, both_ways, eq-eqb, eqb-true, ne_eqb, not_from_false, or_cases, false_from_ne_true}
 use Rattle.model.specs.Tables.{root, Entry, member, distinct, climbs}
 use Rattle.model.specs.Sound.{Live}
 use Rattle.model.proofs.Common.Counts.{few-distinct}
-use Rattle.model.proofs.Common.Tests.{refute}
 use Rattle.model.proofs.Tables.Climbs.{up, Step, climbs_cases, climbs-root, climbs_more, climbs_zero, climbs_mono}
 
 -- the directories on the way
@@ -61,7 +60,7 @@ chain_distinct ds (suc n) d h = go (λ x a. chain_distinct ds n x a) (climbs_cas
     go ih (inl e) = subst (λ xs. distinct xs ≡ true) (sym (chain_root ds (suc n) d e)) refl
     go ih (inr r) = subst (λ xs. distinct xs ≡ true) (sym (chain_more ds n d r.0))
         (and_from (not (member d (chain ds n (up ds d)))) (distinct (chain ds n (up ds d)))
-        (not_from_false (member d (chain ds n (up ds d))) (refute (member d (chain ds n (up ds d))) twice))
+        (not_from_false (member d (chain ds n (up ds d))) (false_from_ne_true (member d (chain ds n (up ds d))) twice))
         (ih (up ds d) r.2))
       where
         twice : member d (chain ds n (up ds d)) ≡ true → ⊥

@@ -1,5 +1,6 @@
 -- Ways up to the root: a directory and the names that lead to it determine each other.
 use Rattle.std.proofs.Common.{◌≡◌, ℕ, zero, suc, ◌<◌, ◌≤◌, Bool, true, false, ◌&&◌, ◌||◌, eqb, ltb, ◌⊎◌, List, [], ◌∷◌, ◌++◌, get_or, sym, refl, ap, ◌∙◌, ap₂, inl, inr, arith}
+use Rattle.std.specs.Cmp.{both_ways}
 use Rattle.std.proofs.lemmas.List.{same_from_push}
 use Rattle.std.proofs.lemmas.Bool.{and_from, and_parts, eq-eqb, eqb-false, eqb-true, lt-ltb, ne_eqb, or_left, or_right}
 use Rattle.model.specs.Image.{Image}
@@ -8,7 +9,6 @@ use Rattle.model.specs.Tables.{root, Entry, Tables, no_entry, live, trimmed, liv
 use Rattle.model.specs.Volume.{is_child, climb, item_path}
 use Rattle.model.specs.Sound.{Live, Proper, Sound}
 use Rattle.model.proofs.Common.Lists.{push_never_nil}
-use Rattle.model.proofs.Common.Tests.{tests_alike}
 use Rattle.model.proofs.Naming.Same.{same_name_true, eq_same_name, same_path_true, eq_same_path}
 use Rattle.model.proofs.Naming.Spelling.{trimmed-padded}
 use Rattle.model.proofs.Tables.Rules.{live_dir-live}
@@ -123,7 +123,7 @@ module _ (i : Image) (t : Tables) (s : Sound i t) where
 
   -- an entry's path is that of n in d exactly if the entry is the child n of d
   pub path-child : (d : ℕ) (n : Name) (e : Entry) → Place t.dirs d → proper_name n ≡ true → Proper t.dirs e → same_path (climb t.dirs 32 d ++ n ∷ []) (item_path t.dirs e) ≡ is_child d n e
-  path-child d n e p q x = tests_alike (same_path (climb t.dirs 32 d ++ n ∷ []) (item_path t.dirs e)) (is_child d n e) there back
+  path-child d n e p q x = both_ways (same_path (climb t.dirs 32 d ++ n ∷ []) (item_path t.dirs e)) (is_child d n e) there back
     where
       there : same_path (climb t.dirs 32 d ++ n ∷ []) (item_path t.dirs e) ≡ true → is_child d n e ≡ true
       there h =

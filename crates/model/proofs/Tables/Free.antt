@@ -1,14 +1,13 @@
 -- The free data sectors, those that a write is given, and the bodies that stay.
 use Rattle.std.proofs.Common.{◌≡◌, ℕ, zero, suc, ◌+◌, ◌*◌, ◌/◌, ◌%◌, ◌<◌, ◌≤◌, Bool, true, false, cond, not, ◌&&◌, eqb, leb, ◌⊎◌, List, [], ◌∷◌, length, get_or, sym, refl, ap, ◌∙◌, inl, inr, arith}
 use Rattle.std.proofs.lemmas.List.{length-take-le}
-use Rattle.std.proofs.lemmas.Bool.{and_from, and_parts, eqb-true, false≢true, leb-true, not_from_false, or_cases}
+use Rattle.std.proofs.lemmas.Bool.{and_from, and_parts, eqb-true, false≢true, leb-true, not_from_false, or_cases, false_from_ne_true}
 use Rattle.model.specs.Image.{Image, look, is_ok}
 use Rattle.model.specs.Tables.{Tables, used, member, distinct}
 use Rattle.model.specs.History.{whole_sectors}
 use Rattle.model.specs.Volume.{body, free_from, free_sectors, room_for, given}
 use Rattle.model.specs.Sound.{Shaped, Live, ProperRow, Sound}
 use Rattle.model.proofs.Common.Members.{take-member, take-distinct}
-use Rattle.model.proofs.Common.Tests.{refute}
 use Rattle.model.proofs.Store.Bodies.{body_same}
 use Rattle.model.proofs.Tables.Places.{used-at, named-member}
 use Rattle.model.proofs.Tables.Rules.{data_range, data_from}
@@ -41,7 +40,7 @@ free-distinct ms zero s = refl
 free-distinct ms (suc n) s = go (eqb (get_or ms s 1) 0) (free-distinct ms n (suc s))
   where
     go : (b : Bool) → distinct (free_from ms (suc s) n) ≡ true → distinct (cond b (s ∷ free_from ms (suc s) n) (free_from ms (suc s) n)) ≡ true
-    go true ih = and_from (not (member s (free_from ms (suc s) n))) (distinct (free_from ms (suc s) n)) (not_from_false (member s (free_from ms (suc s) n)) (refute (member s (free_from ms (suc s) n)) (λ h. let f = (free-member ms n (suc s) s h).0 in omega arith))) ih
+    go true ih = and_from (not (member s (free_from ms (suc s) n))) (distinct (free_from ms (suc s) n)) (not_from_false (member s (free_from ms (suc s) n)) (false_from_ne_true (member s (free_from ms (suc s) n)) (λ h. let f = (free-member ms n (suc s) s h).0 in omega arith))) ih
     go false ih = ih
 
 -- the sectors given -------------------------------------------------------------------------------
@@ -89,7 +88,7 @@ module _ (i : Image) (t : Tables) (shaped : Shaped t) (s : Sound i t) where
       at n m =
           let x = get_or (get_or t.rows k []) n 0 in
           let o = proper.stored n m in
-          h x (data_range x o.0).1 (refute (member x ss) (λ e. clash x (sp x e).unmarked (s.used_marked x o.0 o.1 (named-member t shaped k n x (l.0, l.1, m, refl)))))
+          h x (data_range x o.0).1 (false_from_ne_true (member x ss) (λ e. clash x (sp x e).unmarked (s.used_marked x o.0 o.1 (named-member t shaped k n x (l.0, l.1, m, refl)))))
         where
           clash : (x : ℕ) → get_or t.marks x 1 ≡ 0 → get_or t.marks x 1 ≡ 0xff → ⊥
           clash x p q = let z : ◌≡◌ {A = ℕ} 0 0xff = sym p ∙ q in omega arith

@@ -1,13 +1,13 @@
 -- Soundness as a test and rule by rule, each from the other.
 use Rattle.std.proofs.Common.{◌≡◌, ℕ, zero, suc, ◌+◌, ◌-◌, ◌<◌, ◌≤◌, Bool, true, false, cond, not, ◌&&◌, ◌||◌, eqb, ltb, leb, ◌⊎◌, List, [], ◌∷◌, ◌++◌, length, get_or, drop, sym, refl, ap, ◌∙◌, subst, inl, inr, arith}
 use Rattle.std.proofs.lemmas.List.{get_or-append-add, get_or_append_left, get_or-append_right, get_or-drop, get_or_past, length-append, length-drop}
-use Rattle.std.proofs.lemmas.Bool.{and_from, and_parts, both_ways, cases_lt, cases_order, eq-eqb, eqb-true, le-leb, le-ltb, leb-true, lt-ltb, ltb-false, ltb-true, not_from_false, not-true, or_left, or_right}
+use Rattle.std.proofs.lemmas.Bool.{and_from, and_parts, both_ways, cases_lt, cases_order, eq-eqb, eqb-true, le-leb, le-ltb, leb-true, lt-ltb, ltb-false, ltb-true, not_from_false, not-true, or_left, or_right, false_from_ne_true}
 use Rattle.model.specs.Image.{Image, look, is_ok}
 use Rattle.model.specs.Names.{same_name, proper_name, padded}
 use Rattle.model.specs.Tables.{sound, all, root, Entry, Tables, each, no_entry, live, trimmed, used, data_sector, live_places, member, distinct, alive, mark_of, marks_right, live_dir, well_named, proper_entry, climbs, same_place, unshared, proper_row, proper_rows}
 use Rattle.model.specs.Volume.{row}
 use Rattle.model.specs.Sound.{Shaped, Live, Proper, ProperRow, Sound}
-use Rattle.model.proofs.Common.Tests.{refute, implied, all-holds, all_from, each_holds, each_from}
+use Rattle.model.proofs.Common.Tests.{implied, all-holds, all_from, each_holds, each_from}
 use Rattle.model.proofs.Naming.Same.{same_name_true, same_name_refl, eq_same_name}
 use Rattle.model.proofs.Tables.Places.{used-at, live_places_is, distinct_apart, distinct-places}
 
@@ -194,7 +194,7 @@ unshared-from : (es : List Entry) → ((j k : ℕ) → j < k → k < length es �
 unshared-from [] h = refl
 unshared-from (e ∷ es) h =
     and_from (all (λ f. not (same_place e f)) es) (unshared es)
-    (all_from (λ f. not (same_place e f)) es no_entry (λ k l. not_from_false (same_place e (get_or es k no_entry)) (refute (same_place e (get_or es k no_entry)) (h 0 (suc k) (omega arith) (omega arith)))))
+    (all_from (λ f. not (same_place e f)) es no_entry (λ k l. not_from_false (same_place e (get_or es k no_entry)) (false_from_ne_true (same_place e (get_or es k no_entry)) (h 0 (suc k) (omega arith) (omega arith)))))
     (unshared-from es (λ j k l m. h (suc j) (suc k) (omega arith) (omega arith)))
 
 same_parts : (e f : Entry) → same_place e f ≡ true → (live e ≡ true) × (live f ≡ true) × (e.parent ≡ f.parent) × (e.name ≡ f.name)

@@ -1,5 +1,6 @@
 -- A walk down the tables arrives where the names say.
 use Rattle.std.proofs.Common.{◌≡◌, ℕ, ◌<◌, true, false, not, eqb, List, [], ◌∷◌, ◌++◌, length, get_or, set, Some, None, Option, sym, refl, ap, ◌∙◌, subst, ap₂, inr, arith}
+use Rattle.std.proofs.lemmas.Option.{none-some}
 use Rattle.std.proofs.lemmas.List.{append_assoc, append-nil}
 use Rattle.std.proofs.lemmas.Bool.{and_from, and_parts, both_ways, eq-eqb, eqb-true, false≢true, not-true}
 use Rattle.model.specs.Image.{Image}
@@ -10,7 +11,7 @@ use Rattle.model.specs.Book.{parent, last}
 use Rattle.model.specs.Volume.{is_child, child, either_kind, walk, item_in, holder, item, is_dir, is_file, named, climb, item_path, leads, free_entry, first_bytes, or_zero, new_entry}
 use Rattle.model.specs.Sound.{Shaped, Live, Sound}
 use Rattle.model.proofs.Common.Searches.{first_some, first_none}
-use Rattle.model.proofs.Common.Tests.{no_some, some_out}
+use Rattle.model.proofs.Common.Tests.{some_out}
 use Rattle.model.proofs.Naming.Same.{same_name_true, eq_same_name, within-below, within-up}
 use Rattle.model.proofs.Naming.Spelling.{trimmed-padded, padded-live, spelt-names, spelt_some, parent-last, parent-names, last_name}
 use Rattle.model.proofs.Tables.Climbs.{Place, climb-live}
@@ -60,8 +61,8 @@ child_none es d n many h c l p q =
 
 neither : (a b : Option ℕ) → either_kind a b ≡ None → (a ≡ None) × (b ≡ None)
 neither None None h = (refl, refl)
-neither None (Some j) h = absurd (no_some (file, j) (sym h))
-neither (Some i) b h = absurd (no_some (directory, i) (sym h))
+neither None (Some j) h = absurd (none-some (file, j) (sym h))
+neither (Some i) b h = absurd (none-some (directory, i) (sym h))
 
 pub untaken : (t : Tables) (d : ℕ) (p : List ℕ) → spelt p ≡ true → (h : ℕ) → holder t d (names p) ≡ Some h → named t d p ≡ None → (child t.dirs h (last (names p)) ≡ None) × (child t.files h (last (names p)) ≡ None)
 untaken t d p s h e none = neither (child t.dirs h (last (names p))) (child t.files h (last (names p))) (sym (ap (λ o. item_in t o (last (names p))) e) ∙ sym (as_item (names p) (spelt_some p s)) ∙ none)

@@ -1,12 +1,12 @@
 -- Ways up that stayed while entries changed, and what lies under a directory.
 use Rattle.std.proofs.Common.{◌≡◌, ℕ, zero, suc, true, false, not, ◌&&◌, ◌||◌, eqb, List, [], ◌∷◌, ◌++◌, get_or, sym, refl, ap, ◌∙◌, subst, ap₂, inl, inr, arith}
+use Rattle.std.specs.Cmp.{both_ways}
 use Rattle.std.proofs.lemmas.Bool.{eq-eqb, eqb-true, ne_eqb, or_from}
 use Rattle.model.specs.Image.{Image}
 use Rattle.model.specs.Names.{same_path, within}
 use Rattle.model.specs.Tables.{root, Entry, Tables, no_entry, live, trimmed, climbs}
 use Rattle.model.specs.Volume.{climb, under}
 use Rattle.model.specs.Sound.{Live, Sound}
-use Rattle.model.proofs.Common.Tests.{tests_alike}
 use Rattle.model.proofs.Naming.Same.{same_path_true, eq_same_path, within_nil, within_push}
 use Rattle.model.proofs.Tables.Climbs.{up, Step, climbs_cases, climbs-root, climbs_more, climbs_zero, climb-root, climb-up, climb_fuel, same-climb, climb-live}
 
@@ -54,6 +54,6 @@ module _ (i : Image) (t : Tables) (s : Sound i t) where
           one_up = climb-up t.dirs n d (ne_eqb d root r.0)
 
           itself : eqb d top ≡ same_path (climb t.dirs 32 top) (climb t.dirs n (up t.dirs d) ++ trimmed (get_or t.dirs d no_entry).name ∷ [])
-          itself = tests_alike (eqb d top) (same_path (climb t.dirs 32 top) (climb t.dirs n (up t.dirs d) ++ trimmed (get_or t.dirs d no_entry).name ∷ []))
+          itself = both_ways (eqb d top) (same_path (climb t.dirs 32 top) (climb t.dirs n (up t.dirs d) ++ trimmed (get_or t.dirs d no_entry).name ∷ []))
               (λ e. eq_same_path (climb t.dirs 32 top) (climb t.dirs n (up t.dirs d) ++ trimmed (get_or t.dirs d no_entry).name ∷ []) (climb_fuel t.dirs 32 (suc n) top (s.rooted top l) (subst (λ x. climbs t.dirs (suc n) x ≡ true) (eqb-true d top e) c) ∙ ap (climb t.dirs (suc n)) (sym (eqb-true d top e)) ∙ one_up))
               (λ e. eq-eqb d top (sym (same-climb i t s 32 (suc n) top d (s.rooted top l) c (same_path_true (climb t.dirs 32 top) (climb t.dirs n (up t.dirs d) ++ trimmed (get_or t.dirs d no_entry).name ∷ []) e ∙ sym one_up))))

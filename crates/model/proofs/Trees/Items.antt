@@ -1,5 +1,6 @@
 -- The items of a tree are the live entries of its tables, found under the same numbers.
 use Rattle.std.proofs.Common.{◌≡◌, ℕ, zero, suc, ◌<◌, ◌≤◌, Bool, true, false, cond, not, ◌&&◌, ◌||◌, eqb, ◌⊎◌, List, [], ◌∷◌, ◌++◌, length, get_or, Some, None, Option, sym, refl, ap, ◌∙◌, inl, inr, arith}
+use Rattle.std.specs.Cmp.{both_ways as same_tests}
 use Rattle.std.proofs.lemmas.List.{get_or_past}
 use Rattle.std.proofs.lemmas.Bool.{and_from, and_parts, both_ways, cases_lt, eq-eqb, eqb-true, false≢true, le-ltb, lt-ltb}
 use Rattle.model.specs.Image.{Image}
@@ -11,7 +12,6 @@ use Rattle.model.specs.History.{whole as whole_path, below}
 use Rattle.model.specs.Volume.{is_child, child, walk, holder, climb, item_path, body, dir_items, file_items, tree_of, starts, free_entry}
 use Rattle.model.specs.Sound.{Shaped, Live, Proper, Sound}
 use Rattle.model.proofs.Common.Searches.{first_none, first_alike}
-use Rattle.model.proofs.Common.Tests.{tests_alike}
 use Rattle.model.proofs.Naming.Same.{eq_same_name}
 use Rattle.model.proofs.Naming.Spelling.{parent-names, last_name}
 use Rattle.model.proofs.Tables.Climbs.{Place, climb-live, path-child}
@@ -67,7 +67,7 @@ module _ (i : Image) (t : Tables) (shaped : Shaped t) (s : Sound i t) where
     where
       go : (b : Bool) → live e ≡ b → (b && same_path (climb t.dirs 32 d ++ n ∷ []) (item_path t.dirs e)) ≡ is_child d n e
       go true l = path-child i t s d n e p q (h l)
-      go false l = tests_alike false (is_child d n e) (λ z. absurd (false≢true z)) (λ z. sym l ∙ child-live d n e q z)
+      go false l = same_tests false (is_child d n e) (λ z. absurd (false≢true z)) (λ z. sym l ∙ child-live d n e q z)
 
   pub dir_number : (d : ℕ) (n : Name) → Place t.dirs d → proper_name n ≡ true → number_at (tree_of t i).dirs (climb t.dirs 32 d ++ n ∷ []) ≡ child t.dirs d n
   dir_number d n p q = first_alike (stands_at (climb t.dirs 32 d ++ n ∷ [])) (is_child d n) None no_entry (dir_items t.dirs t.dirs) t.dirs (length-dir_items t.dirs t.dirs) same

@@ -1,5 +1,6 @@
 -- The tree of a volume that stands is one that books tell apart.
 use Rattle.std.proofs.Common.{◌≡◌, ℕ, zero, suc, ◌+◌, ◌*◌, ◌<◌, ◌≤◌, true, ◌⊎◌, [], length, get_or, Some, None, sym, refl, ap, ◌∙◌, subst, inl, inr, arith}
+use Rattle.std.proofs.lemmas.Option.{none-some}
 use Rattle.std.proofs.lemmas.List.{get_or_past, length_push}
 use Rattle.std.proofs.lemmas.Bool.{cases_lt, ne_eqb}
 use Rattle.model.specs.Image.{Image}
@@ -10,7 +11,6 @@ use Rattle.model.specs.Book.{parent}
 use Rattle.model.specs.Volume.{climb, item_path, body, dir_items, file_items, tree_of}
 use Rattle.model.specs.Sound.{Shaped, Live, Proper, Sound}
 use Rattle.model.specs.Law.{whole}
-use Rattle.model.proofs.Common.Tests.{no_some}
 use Rattle.model.proofs.Naming.Spelling.{names_push, parent_push}
 use Rattle.model.proofs.Tables.Climbs.{up, Step, climbs_cases, climb-root, climb-up, place-climbs}
 use Rattle.model.proofs.Tables.Places.{used-short, row-length}
@@ -43,7 +43,7 @@ module _ (i : Image) (t : Tables) (w : whole i ≡ true) (shaped : Shaped t) (s 
     where
       go : (n < length t.dirs) ⊎ (length t.dirs ≤ n) → Live t.dirs n × (x.path ≡ item_path t.dirs (get_or t.dirs n no_entry)) × (x.bytes ≡ [])
       go (inl l) = let o = it_out (live (get_or t.dirs n no_entry)) (item_path t.dirs (get_or t.dirs n no_entry)) [] x (sym (dir_items-at t.dirs t.dirs n l) ∙ e) in (live_at t.dirs shaped.dirs_many n l o.0, o.1, o.2)
-      go (inr l) = let a = length-dir_items t.dirs t.dirs in let m : length (dir_items t.dirs t.dirs) ≤ n = omega arith in absurd (no_some x (sym (get_or_past (dir_items t.dirs t.dirs) n None m) ∙ e))
+      go (inr l) = let a = length-dir_items t.dirs t.dirs in let m : length (dir_items t.dirs t.dirs) ≤ n = omega arith in absurd (none-some x (sym (get_or_past (dir_items t.dirs t.dirs) n None m) ∙ e))
 
   pub file_out : (n : ℕ) (x : Item) → get_or (file_items t.dirs i t.files t.rows) n None ≡ Some x → Live t.files n × (x.path ≡ item_path t.dirs (get_or t.files n no_entry)) × (x.bytes ≡ body i (used (get_or t.rows n [])))
   file_out n x e = go (cases_lt n (length t.files))
@@ -53,7 +53,7 @@ module _ (i : Image) (t : Tables) (w : whole i ≡ true) (shaped : Shaped t) (s 
 
       go : (n < length t.files) ⊎ (length t.files ≤ n) → Live t.files n × (x.path ≡ item_path t.dirs (get_or t.files n no_entry)) × (x.bytes ≡ body i (used (get_or t.rows n [])))
       go (inl l) = let r : n < length t.rows = omega arith in let o = it_out (live (get_or t.files n no_entry)) (item_path t.dirs (get_or t.files n no_entry)) (body i (used (get_or t.rows n []))) x (sym (file_items-at t.dirs i t.files t.rows n l r) ∙ e) in (live_at t.files shaped.files_many n l o.0, o.1, o.2)
-      go (inr l) = let a = length-file_items t.dirs i t.files t.rows same in let m : length (file_items t.dirs i t.files t.rows) ≤ n = omega arith in absurd (no_some x (sym (get_or_past (file_items t.dirs i t.files t.rows) n None m) ∙ e))
+      go (inr l) = let a = length-file_items t.dirs i t.files t.rows same in let m : length (file_items t.dirs i t.files t.rows) ≤ n = omega arith in absurd (none-some x (sym (get_or_past (file_items t.dirs i t.files t.rows) n None m) ∙ e))
 
   entry-held : (e : Entry) (x : Item) → x.path ≡ item_path t.dirs e → Proper t.dirs e → tree_dir (tree_of t i) (parent x.path) ≡ true
   entry-held e x h p = ap (tree_dir (tree_of t i)) (ap parent h ∙ parent_push (climb t.dirs 32 e.parent) (trimmed e.name)) ∙ place-held i t shaped s e.parent p.held
