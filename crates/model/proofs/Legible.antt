@@ -33,7 +33,7 @@ legible (s ∷ ss) i h =
   where
     go : (l : Result (List ℕ) Fault) → is_ok l ≡ true → Legible ss i → ((read_on l (reads ss i)).fault ≡ None) × ((read_on l (reads ss i)).bytes ≡ bytes_or_blank l ++ body i ss)
     go (Ok b) o r = (r.no_fault, ap (λ (x : List ℕ). b ++ x) r.bytes-are)
-    go (Err f) o r = absurd (let z : ◌≡◌ {A = ℕ} 0 1 = cc in let w : ⊥ = omega arith in w)
+    go (Err f) o r = absurd cc
 
 -- the sectors of all live rows ---------------------------------------------------------------------------
 

@@ -19,17 +19,17 @@ use Rattle.model.proofs.Tables.Loads.{load-holds, dirs_back, files_back, rows-ag
 use Rattle.model.proofs.Tables.Rules.{data_range}
 
 clash : {A : Type 0} → ◌≡◌ {A = Bool} true false → A
-clash e = absurd (let z : ◌≡◌ {A = ℕ} 0 1 = cc in let w : ⊥ = omega arith in w)
+clash e = absurd cc
 
 -- the first that passes is the lowest ----------------------------------------------------------------------
 
 module _ {A : Type 0} (f : A → Bool) (d : A) where
   below-first : (xs : List A) (n : ℕ) → first f xs ≡ Some n → (m : ℕ) → m < n → f (get_or xs m d) ≡ false
-  below-first [] n e m l = absurd (let z : ◌≡◌ {A = ℕ} 0 1 = cc in let w : ⊥ = omega arith in w)
+  below-first [] n e m l = absurd cc
   below-first (x ∷ xs) n e m l = go (λ k. below-first xs k) (f x) refl (first f xs) refl e m l
     where
       later : (o : Option ℕ) → raised o ≡ Some n → (k : ℕ) × (o ≡ Some k) × (n ≡ suc k)
-      later None h = absurd (let z : ◌≡◌ {A = ℕ} 0 1 = cc in let w : ⊥ = omega arith in w)
+      later None h = absurd cc
       later (Some k) h = (k, refl, let q : suc k ≡ n = cc in sym q)
 
       go : ((k : ℕ) → first f xs ≡ Some k → (m : ℕ) → m < k → f (get_or xs m d) ≡ false) → (b : Bool) → f x ≡ b → (o : Option ℕ) → first f xs ≡ o → cond b (Some 0) (raised o) ≡ Some n → (m : ℕ) → m < n → f (get_or (x ∷ xs) m d) ≡ false
@@ -269,11 +269,11 @@ let_in i w = (to (ltb (length i) 260) refl (load i) refl, from)
   where
     judged : (b : Bool) → cond b None (Some unsound) ≡ None → b ≡ true
     judged true h = refl
-    judged false h = absurd (let z : ◌≡◌ {A = ℕ} 0 1 = cc in let v : ⊥ = omega arith in v)
+    judged false h = absurd cc
 
     to : (b : Bool) → ltb (length i) 260 ≡ b → (l : Result Tables Fault) → load i ≡ l → cond b (Some small) (loaded_refusal i l) ≡ None → Carries i
-    to true p l q h = absurd (let z : ◌≡◌ {A = ℕ} 0 1 = cc in let v : ⊥ = omega arith in v)
-    to false p (Err f) q h = absurd (let z : ◌≡◌ {A = ℕ} 0 1 = cc in let v : ⊥ = omega arith in v)
+    to true p l q h = absurd cc
+    to false p (Err f) q h = absurd cc
     to false p (Ok t) q h = record { large = ltb-false (length i) 260 p; tables = t; held = q; sound = sound_facts i t (load_shaped i t w q) (judged (sound i t) h) }
 
     from : Carries i → inspection i ≡ None

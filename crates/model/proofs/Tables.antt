@@ -40,8 +40,8 @@ marks_tell i t r s d = (there (is_ok (look i s)) refl (member s (live_places t.f
     marked = let a = data_range s d in let b = r.shaped.marks_long in get_or_default t.marks s 0 1 (omega arith)
 
     there : (b : Bool) → is_ok (look i s) ≡ b → (c : Bool) → member s (live_places t.files t.rows) ≡ c → get_or t.marks s 0 ≡ 0xff → ∥ ((f : ℕ) × (j : ℕ) × NamesSector t f j s) ∥₁
-    there false h c k e = let z : ◌≡◌ {A = ℕ} 0xfe 0xff = sym (r.facts.dead_marked s d h) ∙ sym marked ∙ e in absurd (let w : ⊥ = omega arith in w)
-    there true h false k e = let z : ◌≡◌ {A = ℕ} 0 0xff = sym (r.facts.free_marked s d h k) ∙ sym marked ∙ e in absurd (let w : ⊥ = omega arith in w)
+    there false h c k e = let z : ◌≡◌ {A = ℕ} 0xfe 0xff = sym (r.facts.dead_marked s d h) ∙ sym marked ∙ e in absurd (omega arith)
+    there true h false k e = let z : ◌≡◌ {A = ℕ} 0 0xff = sym (r.facts.free_marked s d h k) ∙ sym marked ∙ e in absurd (omega arith)
     there true h true k e = ∣ member-named t r.shaped s k ∣₁
 
     back : ((f : ℕ) × (j : ℕ) × NamesSector t f j s) → get_or t.marks s 0 ≡ 0xff

@@ -26,14 +26,14 @@ refused_alike i e h = go (ltb (length i) 260) (load i) h
     go : (b : Bool) (l : Result Tables Fault) → cond b (Some small) (elim l as (λ _. Option Refusal) [ Err f ↦ Some (dead f) | Ok t ↦ None ]) ≡ Some e → cond b (Some small) (loaded_refusal i l) ≡ Some e
     go true l h = h
     go false (Err f) h = h
-    go false (Ok t) h = absurd (let z : ◌≡◌ {A = ℕ} 0 1 = cc in let w : ⊥ = omega arith in w)
+    go false (Ok t) h = absurd cc
 
 -- where format is not refused, soundness decides
 pub judged : (i : Image) (t : Tables) (b : Bool) → format_refusal i ≡ None → load i ≡ Ok t → sound i t ≡ b → inspection i ≡ cond b None (Some unsound)
 judged i t b h e s = go (ltb (length i) 260) refl h
   where
     go : (c : Bool) → ltb (length i) 260 ≡ c → cond c (Some small) (elim (load i) as (λ _. Option Refusal) [ Err f ↦ Some (dead f) | Ok t ↦ None ]) ≡ None → inspection i ≡ cond b None (Some unsound)
-    go true q h = absurd (let z : ◌≡◌ {A = ℕ} 0 1 = cc in let w : ⊥ = omega arith in w)
+    go true q h = absurd cc
     go false q h = ap₂ (λ (c : Bool) (l : Result Tables Fault). cond c (Some small) (loaded_refusal i l)) q e ∙ ap (λ (c : Bool). cond c None (Some unsound)) s
 
 -- an array that tells which data sectors are dead decides soundness as the image does
@@ -49,11 +49,11 @@ let_in_sound i t h e = go (ltb (length i) 260) (load i) e h
   where
     sure : (b : Bool) → cond b None (Some unsound) ≡ None → b ≡ true
     sure true h = refl
-    sure false h = absurd (let z : ◌≡◌ {A = ℕ} 0 1 = cc in let w : ⊥ = omega arith in w)
+    sure false h = absurd cc
 
     go : (b : Bool) (l : Result Tables Fault) → l ≡ Ok t → cond b (Some small) (loaded_refusal i l) ≡ None → sound i t ≡ true
-    go true l q h = absurd (let z : ◌≡◌ {A = ℕ} 0 1 = cc in let w : ⊥ = omega arith in w)
-    go false (Err f) q h = absurd (let z : ◌≡◌ {A = ℕ} 0 1 = cc in let w : ⊥ = omega arith in w)
+    go true l q h = absurd cc
+    go false (Err f) q h = absurd cc
     go false (Ok u) q h = let same : u ≡ t = cc in subst (λ (x : Tables). sound i x ≡ true) same (sure (sound i u) h)
 
 -- the volume that opening gives
@@ -79,14 +79,14 @@ turned i e r q h = q ∙ sym (ap (λ (o : Option Refusal). answer o tt) h)
 
 none_or : (o : Option Refusal) → ◌≡◌ {A = Result (Unit {0}) Refusal} (answer o tt) (Ok tt) → o ≡ None
 none_or None h = refl
-none_or (Some r) h = absurd (let z : ◌≡◌ {A = ℕ} 0 1 = cc in let w : ⊥ = omega arith in w)
+none_or (Some r) h = absurd cc
 
 pub exactly_inspected : (i : Image) → whole i ≡ true → (r : Result (Unit {0}) Refusal) → r ≡ inspect_answer i → (r ≡ Ok tt) ↔ Carries i
 exactly_inspected i w r e = (λ h. (let_in i w).0 (none_or (inspection i) (sym e ∙ h)), λ c. e ∙ ap (λ (o : Option Refusal). answer o tt) ((let_in i w).1 c))
 
 some_kept : (o : Option Refusal) (l : Result Tables Fault) → is_some (kept o l) ≡ true → o ≡ None
 some_kept None l h = refl
-some_kept (Some r) l h = absurd (let z : ◌≡◌ {A = ℕ} 0 1 = cc in let w : ⊥ = omega arith in w)
+some_kept (Some r) l h = absurd cc
 
 pub exactly_opened : (i : Image) → whole i ≡ true → (v : Volume) → v ≡ opened i → (is_some v.tables ≡ true) ↔ Carries i
 exactly_opened i w v e = (

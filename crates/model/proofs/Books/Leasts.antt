@@ -150,7 +150,7 @@ none_later a [] l y h = absurd h
 none_later a (x ∷ xs) l y h = go (before a x.name) refl l (λ r k. none_later a xs r y k) h
   where
     go : (b : Bool) → before a x.name ≡ b → cond b 1 0 + later a xs ≤ 0 → (later a xs ≤ 0 → In y xs → before a y.name ≡ false) → In y (x ∷ xs) → before a y.name ≡ false
-    go true e l ih h = absurd (let w : ⊥ = omega arith in w)
+    go true e l ih h = absurd (omega arith)
     go false e l ih (inl i) = ap (λ (z : Listed). before a z.name) i ∙ e
     go false e l ih (inr k) = ih (omega arith) k
 

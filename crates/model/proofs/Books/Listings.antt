@@ -36,7 +36,7 @@ from-children k d n (e ∷ es) x h = go (live e && eqb e.parent d) refl (λ a. s
     go false c ih a = ih a
 
 to_children : (k : Kind) (d n : ℕ) (es : List Entry) (j : ℕ) → j < length es → live (get_or es j no_entry) ≡ true → (get_or es j no_entry).parent ≡ d → In (record { kind = k; number = n + j; name = trimmed (get_or es j no_entry).name }) (children k d n es)
-to_children k d n [] j l a u = absurd (let w : ⊥ = omega arith in w)
+to_children k d n [] j l a u = absurd (omega arith)
 to_children k d n (e ∷ es) zero l a u =
     let m : n + 0 ≡ n = omega arith in
     let rest = children k d (suc n) es in

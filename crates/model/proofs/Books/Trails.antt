@@ -26,7 +26,7 @@ links_join t o p q (x ∷ xs) ys h k = (h.0, links_join t (successor t x) p q xs
 pub links_trail : (t : Tables) (xs : List Listed) (o : Option Listed) → Links t o xs None → (n : ℕ) → length xs ≤ n → trail t n o ≡ xs
 links_trail t [] o h zero l = refl
 links_trail t [] o h (suc n) l = ap (λ (p : Option Listed). and_on p (λ x. trail t n (successor t x))) h
-links_trail t (x ∷ xs) o h zero l = absurd (let w : ⊥ = omega arith in w)
+links_trail t (x ∷ xs) o h zero l = absurd (omega arith)
 links_trail t (x ∷ xs) o h (suc n) l = ap (λ (p : Option Listed). and_on p (λ x. trail t n (successor t x))) h.0 ∙ ap (λ (ys : List Listed). x ∷ ys) (links_trail t xs (successor t x) h.1 n (omega arith))
 
 -- what comes after all that d holds
@@ -35,8 +35,8 @@ past t n d = cond (eqb d root) None (onward t n (get_or t.dirs d no_entry).paren
 
 -- once the root is in reach, more steps change nothing
 onward-same : (t : Tables) (m d : ℕ) (a : Name) → climbs t.dirs m d ≡ true → (n k : ℕ) → m < n → m < k → onward t n d a ≡ onward t k d a
-onward-same t m d a c zero k l r = absurd (let w : ⊥ = omega arith in w)
-onward-same t m d a c (suc n) zero l r = absurd (let w : ⊥ = omega arith in w)
+onward-same t m d a c zero k l r = absurd (omega arith)
+onward-same t m d a c (suc n) zero l r = absurd (omega arith)
 onward-same t zero d a c (suc n) (suc k) l r = ap (or_else (least_after a (listing t d))) (ap (λ (b : Bool). cond b None (onward t n (get_or t.dirs d no_entry).parent (trimmed (get_or t.dirs d no_entry).name))) c ∙ sym (ap (λ (b : Bool). cond b None (onward t k (get_or t.dirs d no_entry).parent (trimmed (get_or t.dirs d no_entry).name))) c))
 onward-same t (suc m) d a c (suc n) (suc k) l r = ap (or_else (least_after a (listing t d))) (go (eqb d root) refl (λ h. onward-same t m (get_or t.dirs d no_entry).parent (trimmed (get_or t.dirs d no_entry).name) (climbs-up t.dirs m d h c).1 n k (omega arith) (omega arith)))
   where

@@ -1,5 +1,5 @@
 -- The order of checks: the first that refuses, and what is known where none does.
-use Rattle.std.proofs.Common.{◌≡◌, ℕ, Bool, true, false, cond, not, List, ◌∷◌, Some, None, Option, refl, ap, ◌∙◌, arith}
+use Rattle.std.proofs.Common.{◌≡◌, Bool, true, false, cond, not, List, ◌∷◌, Some, None, Option, refl, ap, ◌∙◌}
 use Rattle.std.proofs.lemmas.Bool.{not-false}
 use Rattle.model.specs.Refusals.{Refusal, check, Check, picked}
 
@@ -13,7 +13,7 @@ pick r {b} {c} {x} {y} e h = go b h ∙ ap (λ z. cond z (Some r) y) e
 
 -- a check that does not refuse, and the later ones
 pub pass : (b : Bool) (r : Refusal) (later : Option Refusal) → cond b (Some r) later ≡ None → (b ≡ false) × (later ≡ None)
-pass true r later e = let z : ◌≡◌ {A = ℕ} 0 1 = cc in absurd (let w : ⊥ = omega arith in w)
+pass true r later e = absurd cc
 pass false r later e = (refl, e)
 
 pub pass_not : (b : Bool) (r : Refusal) (later : Option Refusal) → cond (not b) (Some r) later ≡ None → (b ≡ true) × (later ≡ None)

@@ -13,7 +13,7 @@ count_none f zero a e = refl
 count_none f (suc n) a e = let ih = count_none f n (suc a) (λ s l m. e s (omega arith) (omega arith)) in rw (e a (omega arith) (omega arith)) (omega arith)
 
 count-one : (x n a : ℕ) → a ≤ x → x < a + n → count (λ s. eqb s x) a n ≡ 1
-count-one x zero a l m = absurd (let w : ⊥ = omega arith in w)
+count-one x zero a l m = absurd (omega arith)
 count-one x (suc n) a l m = go (eqb a x) refl (count-one x n (suc a))
   where
     go : (b : Bool) → eqb a x ≡ b → (suc a ≤ x → x < suc a + n → count (λ s. eqb s x) (suc a) n ≡ 1) → cond b 1 0 + count (λ s. eqb s x) (suc a) n ≡ 1

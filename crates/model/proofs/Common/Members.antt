@@ -3,7 +3,6 @@ use Rattle.std.proofs.Common.{◌≡◌, ℕ, zero, suc, ◌<◌, Bool, true, fa
 use Rattle.std.proofs.lemmas.Bool.{and_from, and_parts, both_ways, eq-eqb, eqb-true, false≢true, not_from_false, not-true, or_from, or_left, or_parts, or_right, false_from_ne_true}
 use Rattle.model.specs.Tables.{member, distinct}
 
-
 pub member-append : (s : ℕ) (xs ys : List ℕ) → member s (xs ++ ys) ≡ (member s xs || member s ys)
 member-append s [] ys = refl
 member-append s (x ∷ xs) ys = go (eqb s x) (member-append s xs ys)
@@ -21,12 +20,12 @@ member-at s (x ∷ xs) e = go (eqb s x) refl e (member-at s xs)
     go false h e ih = let r = ih e in (suc r.0, omega arith, r.2)
 
 pub at-member : (xs : List ℕ) (k s : ℕ) → k < length xs → get_or xs k 0 ≡ s → member s xs ≡ true
-at-member [] k s l e = absurd (let w : ⊥ = omega arith in w)
+at-member [] k s l e = absurd (omega arith)
 at-member (x ∷ xs) zero s l e = or_left (eqb s x) (member s xs) (eq-eqb s x (sym e))
 at-member (x ∷ xs) (suc k) s l e = or_right (eqb s x) (member s xs) (at-member xs k s (omega arith) e)
 
 pub distinct-at : (xs : List ℕ) → distinct xs ≡ true → (j k : ℕ) → j < length xs → k < length xs → get_or xs j 0 ≡ get_or xs k 0 → j ≡ k
-distinct-at [] d j k l m e = absurd (let w : ⊥ = omega arith in w)
+distinct-at [] d j k l m e = absurd (omega arith)
 distinct-at (x ∷ xs) d zero zero l m e = refl
 distinct-at (x ∷ xs) d zero (suc k) l m e = absurd (both_ways (member x xs) (not-true (member x xs) (and_parts (not (member x xs)) (distinct xs) d).0) (at-member xs k x (omega arith) (sym e)))
 distinct-at (x ∷ xs) d (suc j) zero l m e = absurd (both_ways (member x xs) (not-true (member x xs) (and_parts (not (member x xs)) (distinct xs) d).0) (at-member xs j x (omega arith) e))
@@ -38,7 +37,7 @@ at-distinct (x ∷ xs) h = go (member x xs) refl (at-distinct xs (λ j k l m e. 
   where
     go : (b : Bool) → member x xs ≡ b → distinct xs ≡ true → (not b && distinct xs) ≡ true
     go false e ih = ih
-    go true e ih = let r = member-at x xs e in let q = h 0 (suc r.0) (omega arith) (omega arith) (sym r.2) in absurd (let w : ⊥ = omega arith in w)
+    go true e ih = let r = member-at x xs e in let q = h 0 (suc r.0) (omega arith) (omega arith) (sym r.2) in absurd (omega arith)
 
 pub distinct_append : (xs ys : List ℕ) → distinct (xs ++ ys) ≡ true → (distinct xs ≡ true) × (distinct ys ≡ true) × ((s : ℕ) → member s xs ≡ true → member s ys ≡ true → ⊥)
 distinct_append [] ys d = (refl, d, λ s e f. false≢true e)

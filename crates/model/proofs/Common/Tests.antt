@@ -1,5 +1,5 @@
 -- Tests, options and ranges of numbers.
-use Rattle.std.proofs.Common.{◌≡◌, ℕ, zero, suc, ◌+◌, ◌<◌, ◌≤◌, Bool, true, false, not, ◌&&◌, ◌||◌, eqb, ◌⊎◌, List, [], ◌∷◌, length, get_or, set, Some, None, Option, sym, refl, inl, inr, arith}
+use Rattle.std.proofs.Common.{◌≡◌, ℕ, zero, suc, ◌+◌, ◌<◌, ◌≤◌, Bool, true, false, not, ◌&&◌, ◌||◌, eqb, ◌⊎◌, List, [], ◌∷◌, length, get_or, set, Some, None, Option, refl, inl, inr, arith}
 use Rattle.std.proofs.lemmas.Bool.{and_from, and_parts, both_ways, eqb-false, eqb-true, false≢true}
 use Rattle.model.specs.Tables.{all, each}
 use Rattle.model.specs.Tree.{is_some}
@@ -31,7 +31,7 @@ implied false y e h = absurd (false≢true e)
 -- tests over a list and over a range --------------------------------------------------------------
 
 pub all-holds : {A : Type 0} (f : A → Bool) (d : A) (xs : List A) → all f xs ≡ true → (k : ℕ) → k < length xs → f (get_or xs k d) ≡ true
-all-holds f d [] e k l = absurd (let w : ⊥ = omega arith in w)
+all-holds f d [] e k l = absurd (omega arith)
 all-holds f d (x ∷ xs) e zero l = (and_parts (f x) (all f xs) e).0
 all-holds f d (x ∷ xs) e (suc k) l = all-holds f d xs (and_parts (f x) (all f xs) e).1 k (omega arith)
 
@@ -45,7 +45,7 @@ all_set f (x ∷ xs) zero a p q = and_from (f a) (all f xs) p (and_parts (f x) (
 all_set f (x ∷ xs) (suc n) a p q = and_from (f x) (all f (set xs n a)) (and_parts (f x) (all f xs) q).0 (all_set f xs n a p (and_parts (f x) (all f xs) q).1)
 
 pub each_holds : (n a : ℕ) (f : ℕ → Bool) → each a n f ≡ true → (k : ℕ) → a ≤ k → k < a + n → f k ≡ true
-each_holds zero a f e k l m = absurd (let w : ⊥ = omega arith in w)
+each_holds zero a f e k l m = absurd (omega arith)
 each_holds (suc n) a f e k l m = go (eqb a k) refl (each_holds n (suc a) f (and_parts (f a) (each (suc a) n f) e).1 k)
   where
     go : (b : Bool) → eqb a k ≡ b → (suc a ≤ k → k < suc a + n → f k ≡ true) → f k ≡ true

@@ -4,7 +4,6 @@ use Rattle.std.proofs.lemmas.List.{append_assoc, append-nil, drop_all, drop-appe
 use Rattle.std.proofs.lemmas.Bool.{and_from, and_parts, eq-eqb, eqb-true, false≢true, or_right, false_from_ne_true}
 use Rattle.model.specs.Names.{Name, Path, same_name, same_path, within}
 
-
 -- equality of names and paths ---------------------------------------------------------------------
 
 pub same_name_true : (n m : List ℕ) → same_name n m ≡ true → n ≡ m

@@ -26,7 +26,7 @@ put-set i s b h = go (look i s) h
   where
     go : (r : Result (List ℕ) Fault) → is_ok r ≡ true → stored r i s b ≡ set i s (bytes b)
     go (Ok old) k = refl
-    go (Err f) k = let z : ◌≡◌ {A = ℕ} 0 1 = cc in cc
+    go (Err f) k = cc
 
 pub put_same : (i : Image) (s : ℕ) (b : List ℕ) → is_ok (look i s) ≡ true → look (put i s b) s ≡ Ok b
 put_same i s b h =
@@ -64,7 +64,7 @@ writes-step w ws i h = go (look i w.at) h
   where
     go : (r : Result (List ℕ) Fault) → is_ok r ≡ true → go_on r (writes ws (put i w.at w.new)) i ≡ writes ws (put i w.at w.new)
     go (Ok old) k = refl
-    go (Err f) k = let z : ◌≡◌ {A = ℕ} 0 1 = cc in cc
+    go (Err f) k = cc
 
 -- what writes to live sectors keep
 pub record Like (i j : Image) : Type 0 where

@@ -60,7 +60,7 @@ module _ (i : Image) (t : Tables) (shaped : Shaped t) (s : Sound i t) where
 
       go : (v : Bool) → is_ok (look i x) ≡ v → is_ok (look i x) ≡ true
       go true h = h
-      go false h = let z : ◌≡◌ {A = ℕ} 0xfe 0 = sym (s.dead_marked x (data_from x f.0 b) h) ∙ f.2 in absurd (let w : ⊥ = omega arith in w)
+      go false h = let z : ◌≡◌ {A = ℕ} 0xfe 0 = sym (s.dead_marked x (data_from x f.0 b) h) ∙ f.2 in absurd (omega arith)
 
   pub given-spare : (w : List ℕ) (x : ℕ) → member x (given t w) ≡ true → Spare x
   given-spare w x h = spare 245 x (free-member t.marks 245 11 x (take-member (length w / 512) x (free_sectors t) h)) refl

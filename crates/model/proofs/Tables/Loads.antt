@@ -8,8 +8,8 @@ use Rattle.model.proofs.Store.Writes.{Able, left_at, look_left}
 
 rows_back : (n : ℕ) (rs : List (List ℕ)) → length rs ≡ n → ((k : ℕ) → k < n → length (get_or rs k []) ≡ 16) → parts n (rows_bytes rs) ≡ rs
 rows_back zero [] e h = refl
-rows_back zero (r ∷ rs) e h = let z : ◌≡◌ {A = ℕ} 0 1 = omega arith in cc
-rows_back (suc n) [] e h = let z : ◌≡◌ {A = ℕ} 0 1 = omega arith in cc
+rows_back zero (r ∷ rs) e h = absurd (omega arith)
+rows_back (suc n) [] e h = absurd (omega arith)
 rows_back (suc n) (r ∷ rs) e h =
     let l : length r ≡ 16 = h 0 (omega arith) in
     let ih : parts n (rows_bytes rs) ≡ rs = rows_back n rs (omega arith) (λ k b. h (suc k) (omega arith)) in
@@ -17,7 +17,7 @@ rows_back (suc n) (r ∷ rs) e h =
 
 rows-length : (n : ℕ) (rs : List (List ℕ)) → length rs ≡ n → ((k : ℕ) → k < n → length (get_or rs k []) ≡ 16) → length (rows_bytes rs) ≡ n * 16
 rows-length zero [] e h = refl
-rows-length zero (r ∷ rs) e h = let z : ◌≡◌ {A = ℕ} 0 1 = omega arith in omega arith
+rows-length zero (r ∷ rs) e h = omega arith
 rows-length (suc n) [] e h = omega arith
 rows-length (suc n) (r ∷ rs) e h =
     let l : length r ≡ 16 = h 0 (omega arith) in
@@ -27,8 +27,8 @@ rows-length (suc n) (r ∷ rs) e h =
 
 entries_back : (n : ℕ) (es : List Entry) → length es ≡ n → ((k : ℕ) → k < n → length (get_or es k no_entry).name ≡ 15) → map entry (parts n (entries_bytes es)) ≡ es
 entries_back zero [] e h = refl
-entries_back zero (r ∷ rs) e h = let z : ◌≡◌ {A = ℕ} 0 1 = omega arith in cc
-entries_back (suc n) [] e h = let z : ◌≡◌ {A = ℕ} 0 1 = omega arith in cc
+entries_back zero (r ∷ rs) e h = absurd (omega arith)
+entries_back (suc n) [] e h = absurd (omega arith)
 entries_back (suc n) (r ∷ rs) e h =
     let k : length r.name ≡ 15 = h 0 (omega arith) in
     let l : length (r.parent ∷ r.name) ≡ 16 = ap suc k in
@@ -37,7 +37,7 @@ entries_back (suc n) (r ∷ rs) e h =
 
 entries-length : (n : ℕ) (es : List Entry) → length es ≡ n → ((k : ℕ) → k < n → length (get_or es k no_entry).name ≡ 15) → length (entries_bytes es) ≡ n * 16
 entries-length zero [] e h = refl
-entries-length zero (r ∷ rs) e h = let z : ◌≡◌ {A = ℕ} 0 1 = omega arith in omega arith
+entries-length zero (r ∷ rs) e h = omega arith
 entries-length (suc n) [] e h = omega arith
 entries-length (suc n) (r ∷ rs) e h =
     let k : length r.name ≡ 15 = h 0 (omega arith) in
@@ -63,7 +63,7 @@ pub same_ok : (t u : Tables) → ◌≡◌ {A = Result Tables Fault} (Ok t) (Ok 
 same_ok t u e = cc
 
 no_ok : (f : Fault) (t : Tables) → ◌≡◌ {A = Result Tables Fault} (Err f) (Ok t) → ⊥
-no_ok f t e = let z : ◌≡◌ {A = ℕ} 0 1 = cc in omega arith
+no_ok f t e = cc
 
 four : (a b c d : Result (List ℕ) Fault) (t : Tables) → chained a b c d ≡ Ok t → Four a b c d t
 four (Err e) b c d t k = absurd (no_ok e t k)

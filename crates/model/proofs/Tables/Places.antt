@@ -15,7 +15,7 @@ used-at [] j l = refl
 used-at (s ∷ r) j l = go (eqb s 0) j l (used-at r)
   where
     go : (b : Bool) (j : ℕ) → j < length (cond b [] (s ∷ used r)) → ((j : ℕ) → j < length (used r) → get_or (used r) j 0 ≡ get_or r j 0) → get_or (cond b [] (s ∷ used r)) j 0 ≡ get_or (s ∷ r) j 0
-    go true j l ih = absurd (let w : ⊥ = omega arith in w)
+    go true j l ih = absurd (omega arith)
     go false zero l ih = refl
     go false (suc j) l ih = ih j (omega arith)
 

@@ -80,8 +80,8 @@ proper_from ds e p l =
     record { named = c.0; filled = same_name_true e.name (padded (trimmed e.name)) c.1; held = held-from ds e.parent b.1 }
 
 unshared-at : (xs : List Entry) → unshared xs ≡ true → (j k : ℕ) → j < k → k < length xs → same_place (get_or xs j no_entry) (get_or xs k no_entry) ≡ false
-unshared-at [] u j k l m = absurd (let w : ⊥ = omega arith in w)
-unshared-at (x ∷ xs) u j zero l m = absurd (let w : ⊥ = omega arith in w)
+unshared-at [] u j k l m = absurd (omega arith)
+unshared-at (x ∷ xs) u j zero l m = absurd (omega arith)
 unshared-at (x ∷ xs) u zero (suc k) l m = not-true (same_place x (get_or xs k no_entry)) (all-holds (λ f. not (same_place x f)) no_entry xs (and_parts (all (λ f. not (same_place x f)) xs) (unshared xs) u).0 k (omega arith))
 unshared-at (x ∷ xs) u (suc j) (suc k) l m = unshared-at xs (and_parts (all (λ f. not (same_place x f)) xs) (unshared xs) u).1 j k (omega arith) (omega arith)
 
@@ -103,8 +103,8 @@ rooted-at : (ds : List Entry) (n : ℕ) → each 0 32 (λ d. not (live_dir ds d)
 rooted-at ds n e d l = implied (live_dir ds d) (climbs ds n d) (live-live_dir ds d l) (each_holds 32 0 (λ d. not (live_dir ds d) || climbs ds n d) e d (omega arith) (let z = l.0 in omega arith))
 
 rows_at : (i : Image) (es : List Entry) (rs : List (List ℕ)) → proper_rows (alive i) es rs ≡ true → (f : ℕ) → f < length es → f < length rs → live (get_or es f no_entry) ≡ true → proper_row (alive i) (get_or rs f []) ≡ true
-rows_at i [] rs p f l m v = absurd (let w : ⊥ = omega arith in w)
-rows_at i (e ∷ es) [] p f l m v = absurd (let w : ⊥ = omega arith in w)
+rows_at i [] rs p f l m v = absurd (omega arith)
+rows_at i (e ∷ es) [] p f l m v = absurd (omega arith)
 rows_at i (e ∷ es) (r ∷ rs) p zero l m v = let a = (and_parts (not (live e) || proper_row (alive i) r) (proper_rows (alive i) es rs) p).0 in rw v at a
 rows_at i (e ∷ es) (r ∷ rs) p (suc f) l m v = rows_at i es rs (and_parts (not (live e) || proper_row (alive i) r) (proper_rows (alive i) es rs) p).1 f (omega arith) (omega arith) v
 

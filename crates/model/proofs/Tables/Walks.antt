@@ -89,7 +89,7 @@ module _ (i : Image) (t : Tables) (shaped : Shaped t) (s : Sound i t) where
       b = and_parts (proper_name n) (all_names ns) a
 
       go : (o : Option ℕ) → child t.dirs d n ≡ o → walk t o ns ≡ Some e → ((d e : ℕ) → all_names ns ≡ true → Place t.dirs d → walk t (Some d) ns ≡ Some e → Place t.dirs e × (climb t.dirs 32 e ≡ climb t.dirs 32 d ++ ns)) → Place t.dirs e × (climb t.dirs 32 e ≡ climb t.dirs 32 d ++ n ∷ ns)
-      go None k h ih = let z : ◌≡◌ {A = ℕ} 0 1 = cc in absurd (let w : ⊥ = omega arith in w)
+      go None k h ih = absurd cc
       go (Some c) k h ih =
           let q = dir_facts d n c b.0 k in
           let r = ih c e b.1 (inr q.0) h in
@@ -120,10 +120,10 @@ module _ (i : Image) (t : Tables) (shaped : Shaped t) (s : Sound i t) where
           let z : ◌≡◌ {A = Kind × ℕ} (file, c) (k, x) = cc in
           let r = file_facts e (last (n ∷ ns)) c l g in
           subst (λ (y : Kind × ℕ). Found (climb t.dirs 32 d ++ n ∷ ns) y.0 y.1) z (r.0, r.1 ∙ holder-path n ns d e a p q)
-      two e q None f None g h = let z : ◌≡◌ {A = ℕ} 0 1 = cc in absurd (let w : ⊥ = omega arith in w)
+      two e q None f None g h = absurd cc
 
       go : (o : Option ℕ) → holder t d (n ∷ ns) ≡ o → item_in t o (last (n ∷ ns)) ≡ Some (k, x) → Found (climb t.dirs 32 d ++ n ∷ ns) k x
-      go None q h = let z : ◌≡◌ {A = ℕ} 0 1 = cc in absurd (let w : ⊥ = omega arith in w)
+      go None q h = absurd cc
       go (Some e) q h = two e q (child t.dirs e (last (n ∷ ns))) refl (child t.files e (last (n ∷ ns))) refl h
 
   pub found : (d : ℕ) (p : List ℕ) (k : Kind) (x : ℕ) → spelt p ≡ true → Place t.dirs d → named t d p ≡ Some (k, x) → Found (climb t.dirs 32 d ++ names p) k x

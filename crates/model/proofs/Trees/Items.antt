@@ -29,7 +29,7 @@ length-dir_items ds [] = refl
 length-dir_items ds (e ∷ es) = ap suc (length-dir_items ds es)
 
 pub dir_items-at : (ds es : List Entry) (k : ℕ) → k < length es → get_or (dir_items ds es) k None ≡ dir_item ds (get_or es k no_entry)
-dir_items-at ds [] k l = absurd (let w : ⊥ = omega arith in w)
+dir_items-at ds [] k l = absurd (omega arith)
 dir_items-at ds (e ∷ es) zero l = refl
 dir_items-at ds (e ∷ es) (suc k) l = dir_items-at ds es k (omega arith)
 
@@ -39,8 +39,8 @@ length-file_items ds i (e ∷ es) [] l = sym l
 length-file_items ds i (e ∷ es) (r ∷ rs) l = ap suc (length-file_items ds i es rs (omega arith))
 
 pub file_items-at : (ds : List Entry) (i : Image) (es : List Entry) (rs : List (List ℕ)) (k : ℕ) → k < length es → k < length rs → get_or (file_items ds i es rs) k None ≡ file_item ds i (get_or es k no_entry) (get_or rs k [])
-file_items-at ds i [] rs k l m = absurd (let w : ⊥ = omega arith in w)
-file_items-at ds i (e ∷ es) [] k l m = absurd (let w : ⊥ = omega arith in w)
+file_items-at ds i [] rs k l m = absurd (omega arith)
+file_items-at ds i (e ∷ es) [] k l m = absurd (omega arith)
 file_items-at ds i (e ∷ es) (r ∷ rs) zero l m = refl
 file_items-at ds i (e ∷ es) (r ∷ rs) (suc k) l m = file_items-at ds i es rs k (omega arith) (omega arith)
 

@@ -31,7 +31,7 @@ it_there b p q c d e f g = ap (λ x. it x p c) e ∙ (λ j. Some (record { path 
 
 pub it_out : (b : Bool) (p : Path) (c : List ℕ) (x : Item) → it b p c ≡ Some x → (b ≡ true) × (x.path ≡ p) × (x.bytes ≡ c)
 it_out true p c x e = let q : ◌≡◌ {A = Item} (record { path = p; bytes = c }) x = cc in (refl, ap (λ y. y.path) (sym q), ap (λ y. y.bytes) (sym q))
-it_out false p c x e = let z : ◌≡◌ {A = ℕ} 0 1 = cc in absurd (let w : ⊥ = omega arith in w)
+it_out false p c x e = absurd cc
 
 pub carried_it : (p q : Path) (b : Bool) (r : Path) (c : List ℕ) → carried p q (it b r c) ≡ it b (shift p q r) c
 carried_it p q true r c = go (within p r)
