@@ -1,5 +1,4 @@
 // Stores and layers: a chip with one dead sector, seen through windows and mended by a spare.
-use model::types::{Cause, Fault};
 use store::flat::Flat;
 use store::pair::Pair;
 use store::spares::{Spare, Spares};
@@ -56,23 +55,9 @@ fn look<S: Store>(rt: &HostRuntime, name: &str, store: &mut S) -> anyhow::Result
     let mut buffer = [0; SECTOR];
     match store.read(DEAD, &mut buffer) {
         Ok(()) => println!(rt; "   {name}: {size} sectors; sector {DEAD} can be read.")?,
-        Err(fault) => {
-            let cause = word(&fault);
-            let place = fault.place;
-            let depth = fault.depth;
-            println!(rt;
-                "   {name}: {size} sectors; sector {DEAD} is {cause}, place {place}, depth {depth}."
-            )?;
-        }
+        Err(fault) => println!(rt; "   {name}: {size} sectors; sector {DEAD} is {fault}.")?,
     }
     Ok(())
-}
-
-fn word(fault: &Fault) -> &'static str {
-    match fault.cause {
-        Cause::PastEnd => "past the end",
-        Cause::Dead => "dead",
-    }
 }
 
 // Writes the sector and reads it back.

@@ -81,20 +81,16 @@ pub fn tour(rt: &HostRuntime) -> anyhow::Result<()> {
 fn verdict(rt: &HostRuntime, what: &str, answer: Result<(), Refusal>) -> anyhow::Result<()> {
     match answer {
         Ok(()) => println!(rt; "   {what}: ok.")?,
-        Err(refusal) => {
-            let number = refusal.number();
-            let word = refusal.word();
-            println!(rt; "   {what}: no, {number} {word}.")?;
-        }
+        Err(refusal) => println!(rt; "   {what}: no, {refusal}.")?,
     }
     Ok(())
 }
 
 fn verdict_unless_ok(rt: &HostRuntime, answer: Result<(), Refusal>) -> anyhow::Result<()> {
-    match answer {
-        Ok(()) => Ok(()),
-        Err(refusal) => verdict(rt, "Formatted again", Err(refusal)),
+    if answer.is_err() {
+        verdict(rt, "Formatted again", answer)?;
     }
+    Ok(())
 }
 
 // Sets one byte of a sector.
@@ -113,11 +109,10 @@ fn draw<S: Store>(rt: &HostRuntime, volume: &Volume<S>) -> anyhow::Result<()> {
         Err(refusal) => return verdict(rt, "The map", Err(refusal)),
     };
     println!(rt; "   The allocation map (`.` free, `#` used or reserved, `x` dead):")?;
-    for row in 0..16 {
+    for row in map.chunks(16).take(16) {
         print!(rt; "      ")?;
-        for column in 0..16 {
-            let letter = letter(map[16 * row + column]);
-            print!(rt; "{letter}")?;
+        for mark in row {
+            print!(rt; "{}", letter(*mark))?;
         }
         println!(rt; "")?;
     }
