@@ -1,18 +1,16 @@
 -- What the calls that only look answer.
-use Rattle.std.proofs.Common.{◌≡◌, ℕ, Bool, true, false, not, List, Some, None, Ok, Err, Option, Result, sym, refl, ap, ◌∙◌, subst}
-use Rattle.std.specs.Option.{option_map, is_some as std_is_some}
+use Rattle.std.proofs.Common.{◌≡◌, ℕ, List, Some, None, Ok, Err, Option, Result, sym, ap, ◌∙◌, subst}
+use Rattle.std.specs.Option.{option_map}
 use Rattle.model.specs.Answers.{answer, refused_or_met, find_answer, item_or_root, next_answer, least_after, listing}
 use Rattle.model.specs.Image.{Image}
 use Rattle.model.specs.Refusals.{find, next}
 use Rattle.model.specs.Tables.{Tables}
-use Rattle.model.specs.Tree.{is_some}
 use Rattle.model.specs.Volume.{checks, named, number_of}
 use Rattle.model.specs.declared.types.Kind.{Kind}
 use Rattle.model.specs.declared.types.Refusal.{Refusal}
 use Rattle.tables.specs.Plans.{Passes, listed_view}
 use Rattle.tables.specs.declared.outcomes.Listed.{Listed}
-use Rattle.tables.specs.declared.consistent.Consistent.{Consistent}
-use Rattle.volume.specs.Views.{kept_view, listed_answer}
+use Rattle.volume.specs.Views.{listed_answer}
 use Rattle.volume.proofs.Admitting.{on}
 
 pub found : (i : Image) (o : Option Tables) (t : Tables) → o ≡ Some t → (d : ℕ) (p : List ℕ) (r : Result (Kind × ℕ) Refusal) → Passes (checks t i (find d p)) (λ x. named t d p ≡ Some x) r → r ≡ find_answer (on o i) d p

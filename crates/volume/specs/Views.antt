@@ -4,7 +4,6 @@ use Rattle.std.specs.Prelude.{ℕ, List, Some, None, Ok, Err, Option, Result}
 use Rattle.model.specs.declared.types.Refusal.{Refusal}
 use Rattle.model.specs.declared.types.Refusal.TheVariants.{Shut as shut}
 use Rattle.model.specs.Answers.{Listed as ModelListed}
-use Rattle.model.specs.Image.{Image}
 use Rattle.model.specs.Tables.{Tables as Model}
 use Rattle.model.specs.Volume.{Volume as ModelVolume}
 use Rattle.store.specs.declared.Store.{Ghosts}

@@ -1,26 +1,10 @@
-use Rattle.std.proofs.Common.{Err, ap, ◌∙◌}
+use Rattle.std.proofs.Common.{ap, ◌∙◌}
 use Rattle.model.specs.Image.{Image, put, from_to}
 use Rattle.model.specs.Volume.{blank_mark}
-use Rattle.std.proofs.lemmas.Result.{err_from_is_err_and}
 use Rattle.tables.specs.Views.{view}
 use Rattle.volume.proofs.Blanks.{blank_maps}
-use Rattle.volume.proofs.Formatting.{never, four, four_put, z, formatted_is, after_is, answer_is, bare_is, refused_leaves, answer_refused, left_refused}
+use Rattle.volume.proofs.Formatting.{never, four, four_put, z, formatted_is, after_is, answer_is, bare_is}
 use Rattle.volume.proofs.format.format.Goals as goal
-
-pub returns-in_err-load_checked : goal.returns-in_err-load_checked
-returns-in_err-load_checked g c =
-    let i = g.S.Store.image c.args.store.now in
-    let p = err_from_is_err_and c.from_residual.result c.from_residual.ensures.1 in
-    let back = p.1 ∙ ap Err p.2 in
-    let e = c.in_err-load_checked.field-0.0 in
-    let h = c.in_err-load_checked.ensures.answer in
-    record { answer = answer_refused i e c.from_residual.result back h; image = left_refused i (g.S.Store.image c.load_checked.new.store) e c.load_checked.ensures.image h; bare = refused_leaves (g.S.Store.image c.load_checked.new.store) e c.from_residual.result back }
-
-pub returns-in_err-write : goal.returns-in_err-write
-returns-in_err-write g c =
-    let i = g.S.Store.image c.args.store.now in
-    let f = four i (view c.in_ok-load_checked.field-0) c.in_ok-load_checked.ensures.answer.1 in
-    never i (g.S.Store.image c.dead_sectors.new.store) 0x100 c.write.result c.in_err-write.field-0.0 (c.dead_sectors.ensures.image ∙ c.load_checked.ensures.image) f.map-alive c.write.ensures.answer c.in_err-write.was
 
 pub returns-in_err-write-2 : goal.returns-in_err-write-2
 returns-in_err-write-2 g c =

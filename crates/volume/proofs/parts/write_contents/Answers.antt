@@ -1,17 +1,10 @@
-use Rattle.std.proofs.Common.{◌<◌, ◌≤◌, length, Err, sym, ap, ◌∙◌, arith}
+use Rattle.std.proofs.Common.{◌<◌, length, Err, sym, ap, ◌∙◌, arith}
 use Rattle.std.proofs.lemmas.Result.{err_from_is_err_and}
 use Rattle.model.specs.Tables.{used}
 use Rattle.model.specs.Volume.{data_writes}
 use Rattle.model.proofs.Tables.Places.{used-at, used-short}
-use Rattle.volume.proofs.Writing.{data_more, data_left, data_broken, data_over, data_enough}
+use Rattle.volume.proofs.Writing.{data_more, data_left, data_broken}
 use Rattle.volume.proofs.parts.write_contents.Goals as goal
-
-pub returns-in_default : goal.returns-in_default
-returns-in_default g c =
-    let ss = used c.args.contents.now.row.places in
-    let e = c.count-k-end.ensures in
-    let l : c.loop-k.k < length ss = omega arith in
-    absurd (data_enough ss c.loop-k.k c.loop-k.rest.now l c.loop-k.invariant.1 c.in_default.ensures.cases)
 
 pub bounds-row-k : goal.bounds-row-k
 bounds-row-k g c =
@@ -38,10 +31,3 @@ loop-k-preserved g c =
           (c.from.ensures ∙ sym (used-at c.args.contents.now.row.places c.loop-k.k l)) c.in-Some.ensures.cases.0 c.in-Some.ensures.cases.1 (sym c.write.ensures.answer ∙ c.in_ok-write.was) c.write.ensures.image,
       data_left ss c.loop-k.k c.loop-k.rest.now c.in-Some.more.now l c.loop-k.invariant.1 c.in-Some.ensures.cases.1,
     )
-
-pub returns : goal.returns
-returns g c =
-    let ss = used c.args.contents.now.row.places in
-    let e = c.count-k-end.ensures in
-    let l : length ss ≤ c.loop-k.k = omega arith in
-    data_over (g.S.Store.image c.args.store.now) (data_writes ss c.args.contents.now.bytes.now) ss c.loop-k.k c.loop-k.rest.now (g.S.Store.image c.loop-k.store) l c.loop-k.invariant.0

@@ -2,7 +2,7 @@ use Rattle.std.proofs.Common.{map, Err, sym, ap, ◌∙◌}
 use Rattle.std.proofs.lemmas.Result.{err_from_is_err_and}
 use Rattle.tables.specs.Views.{view}
 use Rattle.volume.specs.Writing.{part_write}
-use Rattle.volume.proofs.Writing.{broken, here, more, over}
+use Rattle.volume.proofs.Writing.{broken, here, more}
 use Rattle.volume.proofs.parts.write_parts.Goals as goal
 
 pub returns-in_err-write : goal.returns-in_err-write
@@ -19,10 +19,3 @@ loop-part-preserved g c =
     let t = view c.args.tables.now in
     let ps = c.args.parts.now in
     more (part_write t) i (map (part_write t) ps) ps c.loop-part.part-index _ (g.S.Store.image c.loop-part.store) (g.S.Store.image c.write.new.store) c.loop-part-test.true c.loop-part.invariant (sym c.write.ensures.answer ∙ c.in_ok-write.was) c.write.ensures.image
-
-pub returns : goal.returns
-returns g c =
-    let i = g.S.Store.image c.args.store.now in
-    let t = view c.args.tables.now in
-    let ps = c.args.parts.now in
-    over (part_write t) i (map (part_write t) ps) ps c.loop-part.part-index (g.S.Store.image c.loop-part.store) c.loop-part-test.false c.loop-part.invariant

@@ -1,13 +1,10 @@
-use Rattle.std.proofs.Common.{◌+◌, ◌-◌, ◌*◌, ◌<◌, ◌≤◌, length, Err, sym, ap, ◌∙◌, arith}
+use Rattle.std.proofs.Common.{◌+◌, ◌-◌, ◌*◌, ◌<◌, length, Err, sym, ap, ◌∙◌, arith}
 use Rattle.std.proofs.lemmas.Result.{err_from_is_err_and}
 use Rattle.model.specs.Image.{look}
 use Rattle.model.specs.Tables.{used}
 use Rattle.model.proofs.Tables.Places.{used-at, used-short}
-use Rattle.volume.proofs.Readouts.{begins, read_more, read_stops, read_all}
+use Rattle.volume.proofs.Readouts.{read_more, read_stops}
 use Rattle.volume.proofs.sectors.read_row.Goals as goal
-
-pub loop-k-init : goal.loop-k-init
-loop-k-init g c = begins (g.S.Store.image c.args.store.now) (used c.args.row.now.places) c.args.buffer.now
 
 pub bounds-row-k : goal.bounds-row-k
 bounds-row-k g c =
@@ -36,13 +33,3 @@ loop-k-preserved g c =
     let l : c.loop-k.k < length ss = omega arith in
     let at = ap (look j) (sym (c.from.ensures ∙ sym (used-at c.args.row.now.places c.loop-k.k l))) in
     read_more i ss c.args.buffer.now c.loop-k.k j c.loop-k.buffer c.requires c.loop-k.invariant l (g.S.Store.image c.read_sector.new.store) c.in_ok-sector.sector c.copy_from_slice.new.self (512 * c.loop-k.k + 512 - 512 * c.loop-k.k) (at ∙ sym c.read_sector.ensures.answer ∙ c.in_ok-sector.was) c.read_sector.ensures.image c.copy_from_slice.ensures.after (omega arith) c.copy_from_slice.ensures.len
-
-pub returns : goal.returns
-returns g c =
-    let i = g.S.Store.image c.args.store.now in
-    let j = g.S.Store.image c.loop-k.store in
-    let ss = used c.args.row.now.places in
-    let e = c.count-k-end.ensures in
-    let past : length ss ≤ c.loop-k.k = omega arith in
-    let within : c.loop-k.k ≤ length ss = (let h = c.loop-k.auto.k-end in omega arith) in
-    record { filled = read_all i ss c.args.buffer.now c.loop-k.k j c.loop-k.buffer c.requires c.loop-k.invariant past within; image = c.loop-k.invariant.same }
