@@ -11,11 +11,8 @@ mod tests;
 pub(crate) fn risen(answer: Result<(), Fault>) -> Result<(), Fault>
     ensures { result ≡ risen_answer answer }
 {
-    match answer {
-        Ok(()) => Ok(()),
-        Err(fault) => Err(Fault {
-            depth: fault.depth.saturating_add(1),
-            ..fault
-        }),
-    }
+    answer.map_err(|fault| Fault {
+        depth: fault.depth.saturating_add(1),
+        ..fault
+    })
 }

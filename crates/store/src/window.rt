@@ -6,10 +6,10 @@ ghost use Rattle.store.specs.Layers.{window_over};
 ghost use Rattle.store.specs.Layered.{layer_whole};
 ghost use Rattle.store.specs.Windows as windows;
 
-use crate::faults::past_end;
+use crate::faults::{fit, here};
 use crate::layer::risen;
 use crate::{SECTOR, Store};
-use model::types::{Fault, Refusal};
+use model::types::{Cause, Fault, Refusal};
 
 // The sectors of the store below from `first` on, `count` of them.
 #[derive(Drop)]
@@ -24,11 +24,7 @@ impl<S: Store> Window<S> {
     pub fn fits(below: &S, first: u16, count: u16) -> Result<(), Refusal>
         ensures { result ≡ fit_answer (window_fits (S.image below.now) first count) }
     {
-        if u32::from(first) + u32::from(count) <= u32::from(below.size()) {
-            Ok(())
-        } else {
-            Err(Refusal::Misfit)
-        }
+        fit(u32::from(first) + u32::from(count) <= u32::from(below.size()))
     }
 
     // Takes the store below. A window that does not fit has no sector.
@@ -59,7 +55,7 @@ impl<S: Store> Window<S> {
         if sector < self.size() {
             Ok(self.first + sector)
         } else {
-            Err(past_end(sector))
+            Err(here(Cause::PastEnd, sector))
         }
     }
 }
@@ -73,10 +69,7 @@ impl<S: Store> Store for Window<S> {
         layer_whole (windows.fits a n) n (windows.serve a n) (windows.sound a n) (S.image w.below) (S.wholeness w.below) };
 
     fn size(&self) -> u16 {
-        match Window::fits(&self.below, self.first, self.count) {
-            Ok(()) => self.count,
-            Err(_) => 0,
-        }
+        Window::fits(&self.below, self.first, self.count).map_or(0, |()| self.count)
     }
 
     fn read(&mut self, sector: u16, buffer: &mut [u8; SECTOR]) -> Result<(), Fault> {

@@ -8,10 +8,10 @@ ghost use Rattle.store.specs.Layered.{layer_whole};
 ghost use Rattle.store.specs.Sparing as sparing;
 
 use super::{Spare, Spares};
-use crate::faults::past_end;
+use crate::faults::{fit, here};
 use crate::layer::risen;
 use crate::{MOST_LISTED, SECTOR, Store};
-use model::types::{Fault, Refusal};
+use model::types::{Cause, Fault, Refusal};
 
 impl<S: Store> Spares<S> {
     // Whether there are at most eight pairs, of visible sectors that differ, with spares that differ, are not visible and
@@ -19,11 +19,7 @@ impl<S: Store> Spares<S> {
     pub fn fits(below: &S, visible: u16, pairs: &[Spare]) -> Result<(), Refusal>
         ensures { result ≡ fit_answer (spares_fit (S.image below.now) visible pairs.now) }
     {
-        if enough(below.size(), needed(visible, pairs)) {
-            Ok(())
-        } else {
-            Err(Refusal::Misfit)
-        }
+        fit(enough(below.size(), needed(visible, pairs)))
     }
 
     // Takes the store below. Spares that do not fit make a store with no sector.
@@ -56,7 +52,7 @@ impl<S: Store> Spares<S> {
         if sector < self.size() {
             Ok(serving(&self.pairs, sector))
         } else {
-            Err(past_end(sector))
+            Err(here(Cause::PastEnd, sector))
         }
     }
 }
@@ -118,10 +114,7 @@ fn needed(visible: u16, pairs: &[Spare]) -> Option<u32>
 fn enough(size: u16, need: Option<u32>) -> bool
     ensures { result ≡ enough size need }
 {
-    match need {
-        Some(least) => least <= u32::from(size),
-        None => false,
-    }
+    need.is_some_and(|least| least <= u32::from(size))
 }
 
 // Whether the pairs fit one another, whatever the store below has.

@@ -22,6 +22,6 @@ returns-else-sector-size g c =
     let ps = vec_items c.args.self.now.pairs in
     let s = c.args.sector in
     let below = g.S.Store.image c.args.self.now.below in
-    subst (λ f. Ends (spares_image below v ps) s f) (sym c.past_end.ensures)
+    subst (λ f. Ends (spares_image below v ps) s f) (sym c.here.ensures)
     (layer_ends (sparing.fits v ps) v (sparing.serve v ps) (sparing.sound v ps) below s
     (subst (λ x. x ≤ s) c.size.ensures c.if-sector-size.false))
