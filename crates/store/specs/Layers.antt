@@ -1,12 +1,8 @@
--- What each layer means, over what the store below means: the image that its fields make.
-use Rattle.std.specs.Prelude.{vec_items}
+-- What a layer means, over what the store below means: the image that its placing makes.
+use Rattle.std.specs.Prelude.{ℕ, Bool}
 use Rattle.model.specs.Image.{Image}
-use Rattle.store.specs.Stores.{window_image, spares_image}
-use Rattle.store.specs.declared.window.Window.{Window}
-use Rattle.store.specs.declared.spares.Spares.{Spares}
+use Rattle.store.specs.Stores.{placed}
+use Rattle.store.specs.declared.layer.Layer.{Layer}
 
-abbrev pub window_over : {S : Type 0} → (S → Image) → Window S → Image
-window_over image w = window_image (image w.below) w.first w.count
-
-abbrev pub spares_over : {S : Type 0} → (S → Image) → Spares S → Image
-spares_over image s = spares_image (image s.below) s.visible (vec_items s.pairs)
+abbrev pub layer_over : {S P : Type 0} → (P → ℕ → Bool) → (P → ℕ) → (P → ℕ → ℕ) → (S → Image) → Layer S P → Image
+layer_over fits count serve image l = placed (fits l.placing) (count l.placing) (serve l.placing) (image l.below)

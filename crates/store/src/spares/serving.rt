@@ -1,17 +1,14 @@
 // Spares at work.
-ghost use Rattle.std.specs.Prelude.{◌≡◌, ◌||◌, length};
-ghost use Rattle.model.specs.Image.{Image};
+ghost use Rattle.std.specs.Prelude.{◌≡◌, ◌||◌, ℕ};
 ghost use Rattle.store.specs.Stores.{fit_answer, member, sectors_of, spares_of, pairs_fit, spares_fit, served, spares_image};
-ghost use Rattle.store.specs.Through.{Led, enough};
-ghost use Rattle.store.specs.Layers.{spares_over};
-ghost use Rattle.store.specs.Layered.{layer_whole};
+ghost use Rattle.store.specs.Through.{enough};
 ghost use Rattle.store.specs.Sparing as sparing;
 
-use super::{Spare, Spares};
-use crate::faults::{fit, here};
-use crate::layer::risen;
-use crate::{MOST_LISTED, SECTOR, Store};
-use model::types::{Cause, Fault, Refusal};
+use super::{Pairs, Spare, Spares};
+use crate::faults::fit;
+use crate::layer::{Layer, Placing};
+use crate::{MOST_LISTED, Store};
+use model::types::Refusal;
 
 impl<S: Store> Spares<S> {
     // Whether there are at most eight pairs, of visible sectors that differ, with spares that differ, are not visible and
@@ -25,62 +22,39 @@ impl<S: Store> Spares<S> {
     // Takes the store below. Spares that do not fit make a store with no sector.
     pub fn lay(below: S, visible: u16, pairs: Vec<Spare>) -> Spares<S>
         ensures below { result.below ≡ below }
-        ensures image { spares_over S.image result ≡ spares_image (S.image below) visible pairs.items }
+        ensures image { ⟦<Spares<S> as Store>⟧.image result ≡ spares_image (S.image below) visible pairs.items }
     {
         let need = needed(visible, &pairs);
-        Spares {
+        Layer {
             below,
-            visible,
-            pairs,
-            need,
-        }
-    }
-
-    // Hands the store below back.
-    pub fn into_below(self) -> S
-        ensures below { result ≡ self.below }
-        ensures image { spares_over S.image self ≡ spares_image (S.image result) self.visible self.pairs.items }
-    {
-        let Spares { below, .. } = self;
-        below
-    }
-
-    // The sector below that serves a sector.
-    fn place(&self, sector: u16) -> Result<u16, Fault>
-        ensures { Led (λ below. spares_image below self.now.visible self.now.pairs.items) (S.image self.now.below) sector result }
-    {
-        if sector < self.size() {
-            Ok(serving(&self.pairs, sector))
-        } else {
-            Err(here(Cause::PastEnd, sector))
+            placing: Pairs {
+                visible,
+                pairs,
+                need,
+            },
         }
     }
 }
 
-impl<S: Store> Store for Spares<S> {
-    ghost image = { spares_over S.image };
+impl Placing for Pairs {
+    ghost fits = { λ s. sparing.fits s.visible s.pairs.items };
 
-    ghost wholeness = { λ s.
-        let v = s.visible in
-        let ps = s.pairs.items in
-        layer_whole (sparing.fits v ps) v (sparing.serve v ps) (sparing.sound v ps) (S.image s.below) (S.wholeness s.below) };
+    ghost count = { λ s. s.visible };
 
-    fn size(&self) -> u16 {
-        if enough(self.below.size(), self.need) {
-            self.visible
-        } else {
-            0
-        }
+    ghost serve = { λ s. sparing.serve s.visible s.pairs.items };
+
+    ghost sound = { λ s. sparing.sound s.visible s.pairs.items };
+
+    fn fits(&self, below: u16) -> bool {
+        enough(below, self.need)
     }
 
-    fn read(&mut self, sector: u16, buffer: &mut [u8; SECTOR]) -> Result<(), Fault> {
-        let place = self.place(sector)?;
-        risen(self.below.read(place, buffer))
+    fn count(&self) -> u16 {
+        self.visible
     }
 
-    fn write(&mut self, sector: u16, bytes: &[u8; SECTOR]) -> Result<(), Fault> {
-        let place = self.place(sector)?;
-        risen(self.below.write(place, bytes))
+    fn place(&self, sector: u16) -> u16 {
+        serving(&self.pairs, sector)
     }
 }
 
@@ -98,7 +72,7 @@ fn serving(pairs: &[Spare], sector: u16) -> u16
 
 // The sectors that the store below must have for the pairs, if they fit one another.
 fn needed(visible: u16, pairs: &[Spare]) -> Option<u32>
-    ensures { (i : Image) → enough (length i) result ≡ spares_fit i visible pairs.now }
+    ensures { (n : ℕ) → enough n result ≡ sparing.fits visible pairs.now n }
 {
     if !agree(visible, pairs) {
         return None;

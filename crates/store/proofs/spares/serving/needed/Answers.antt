@@ -1,4 +1,4 @@
-use Rattle.std.proofs.Common.{◌+◌, max, length, drop, sym, ap, ◌∙◌}
+use Rattle.std.proofs.Common.{◌+◌, max, drop, sym, ap, ◌∙◌}
 use Rattle.std.proofs.lemmas.List.{at_drop_more, at_drop_all}
 use Rattle.store.specs.Stores.{spares_of}
 use Rattle.store.specs.Sparing.{no_pair, least_below, enough_least}
@@ -18,4 +18,4 @@ returns c =
     let ps = c.args.pairs.now in
     let k = c.loop-pair.least in
     let e = sym (at_drop_all (λ qs. least_below k (spares_of qs)) ps c.loop-pair.pair-index c.loop-pair-test.false) ∙ c.loop-pair.invariant in
-    λ i. enough_least v ps k c.if-not-agree.ensures e (length i)
+    enough_least v ps k c.if-not-agree.ensures e
