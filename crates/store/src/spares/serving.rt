@@ -1,8 +1,9 @@
 // Spares at work.
-ghost use Rattle.std.specs.Prelude.{◌≡◌, ◌||◌, ℕ};
-ghost use Rattle.store.specs.Stores.{fit_answer, member, sectors_of, spares_of, pairs_fit, spares_fit, served, spares_image};
+ghost use Rattle.std.specs.Prelude.{◌≡◌, ℕ};
+ghost use Rattle.store.specs.Stores.{fit_answer, pairs_fit, spares_fit, served, spares_image};
 ghost use Rattle.store.specs.Through.{enough};
 ghost use Rattle.store.specs.Sparing as sparing;
+ghost use Rattle.store.specs.Sparing.{clash};
 
 use super::{Pairs, Spare, Spares};
 use crate::faults::fit;
@@ -62,12 +63,10 @@ impl Placing for Pairs {
 fn serving(pairs: &[Spare], sector: u16) -> u16
     ensures { result ≡ served pairs.now sector }
 {
-    for pair in pairs {
-        if pair.sector == sector {
-            return pair.spare;
-        }
-    }
-    sector
+    pairs
+        .iter()
+        .find(|pair| sector == pair.sector)
+        .map_or(sector, |pair| pair.spare)
 }
 
 // The sectors that the store below must have for the pairs, if they fit one another.
@@ -77,11 +76,11 @@ fn needed(visible: u16, pairs: &[Spare]) -> Option<u32>
     if !agree(visible, pairs) {
         return None;
     }
-    let mut least = u32::from(visible);
-    for pair in pairs {
-        least = least.max(u32::from(pair.spare) + 1);
-    }
-    Some(least)
+    Some(
+        pairs.iter().fold(u32::from(visible), |least, pair| {
+            least.max(u32::from(pair.spare) + 1)
+        }),
+    )
 }
 
 // Whether a store below of `size` sectors has as many as are needed.
@@ -98,22 +97,19 @@ fn agree(visible: u16, pairs: &[Spare]) -> bool
     if pairs.len() > MOST_LISTED {
         return false;
     }
-    for (i, pair) in pairs.iter().enumerate() {
-        if pair.sector >= visible || pair.spare < visible || clashes(*pair, &pairs[i + 1..]) {
+    let mut rest = pairs;
+    while let [pair, others @ ..] = rest {
+        if pair.sector >= visible || pair.spare < visible || clashes(pair, others) {
             return false;
         }
+        rest = others;
     }
     true
 }
 
 // Whether one of the others has the pair's sector or its spare.
-fn clashes(pair: Spare, others: &[Spare]) -> bool
-    ensures { result ≡ (member pair.sector (sectors_of others.now) || member pair.spare (spares_of others.now)) }
+fn clashes(pair: &Spare, others: &[Spare]) -> bool
+    ensures { result ≡ clash pair.now others.now }
 {
-    for other in others {
-        if other.sector == pair.sector || other.spare == pair.spare {
-            return true;
-        }
-    }
-    false
+    others.iter().any(|other| pair.sector == other.sector || pair.spare == other.spare)
 }
