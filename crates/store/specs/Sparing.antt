@@ -1,5 +1,5 @@
 -- Pairs: when they fit one another and the store below, and that two visible sectors are never served by one.
-use Rattle.std.specs.Prelude.{◌≡◌, ℕ, ◌+◌, ◌<◌, ◌≤◌, max, Bool, true, false, cond, not, ◌&&◌, ◌||◌, ltb, leb, ◌⊎◌, List, [], ◌∷◌, length, Some, None, Option, ◌==◌, ◌≢◌, nat_le, nat_lt, refl}
+use Rattle.std.specs.Prelude.{◌≡◌, ℕ, ◌+◌, ◌<◌, ◌≤◌, max, Bool, true, false, cond, not, ◌&&◌, ◌||◌, ltb, leb, ◌⊎◌, List, [], ◌∷◌, length, Some, None, Option, is_some, IfSome, ◌==◌, ◌≢◌, nat_le, nat_lt, refl}
 use Rattle.std.specs.List.{find, fold, list_any}
 use Rattle.std.specs.Option.{MatchOption, option_map}
 use denote.Ref.{Bor}
@@ -8,6 +8,7 @@ use Rattle.std.proofs.lemmas.Bool.{ltb-true, lt-ltb, le-ltb, leb-true, le-leb, l
 use Rattle.model.specs.Image.{all}
 use Rattle.store.specs.declared.spares.Spare.{Spare}
 use Rattle.store.specs.Stores.{most_listed, member, distinct, sectors_of, spares_of, pairs_fit, served}
+use Rattle.store.specs.Through.{enough}
 use Rattle.store.specs.Layered.{Serves}
 
 -- the sector that serves s -----------------------------------------------------------------------------------------
@@ -99,11 +100,12 @@ module _ (v : ℕ) (ps : List Spare) where
   abbrev pub fits : ℕ → Bool
   fits n = pairs_fit v ps && nat_le v n && all (λ s. ltb s n) (spares_of ps)
 
-  pub enough_least : (least : ℕ) → true ≡ pairs_fit v ps → least ≡ least_below v ps → (n : ℕ) → nat_le least n ≡ fits n
-  enough_least least h e n =
-      ap (λ k. leb k n) e
+  pub enough_needed : (need : Option ℕ) {P : ℕ → Type 0} → is_some need ≡ pairs_fit v ps → IfSome need P → ((least : ℕ) → P least → least ≡ least_below v ps) → (n : ℕ) → enough n need ≡ fits n
+  enough_needed None e k h n = ap (λ q. q && nat_le v n && all (λ s. ltb s n) (spares_of ps)) e
+  enough_needed (Some least) e k h n =
+      ap (λ m. leb m n) (h least k)
       ∙ (sym (least_fits v ps n)
-      ∙ ap (λ q. q && nat_le v n && all (λ s. ltb s n) (spares_of ps)) h)
+      ∙ ap (λ q. q && nat_le v n && all (λ s. ltb s n) (spares_of ps)) e)
 
 -- no two visible sectors are served by one -------------------------------------------------------------------------
 

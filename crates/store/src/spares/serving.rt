@@ -73,14 +73,12 @@ fn serving(pairs: &[Spare], sector: u16) -> u16
 fn needed(visible: u16, pairs: &[Spare]) -> Option<u32>
     ensures { (n : ℕ) → enough n result ≡ sparing.fits visible pairs.now n }
 {
-    if !agree(visible, pairs) {
-        return None;
-    }
-    Some(
-        pairs.iter().fold(u32::from(visible), |least, pair| {
-            least.max(u32::from(pair.spare) + 1)
-        }),
-    )
+    agree(visible, pairs).then(|| {
+        pairs.iter().fold(
+            u32::from(visible),
+            |least, pair| least.max(u32::from(pair.spare) + 1),
+        )
+    })
 }
 
 // Whether a store below of `size` sectors has as many as are needed.
