@@ -14,7 +14,7 @@ use model::types::{Cause, Fault};
 mod tests;
 
 // Which sector of the store below serves which of the layer: in this alone layers differ.
-pub trait Placing: Drop {
+pub(crate) trait Placing: Drop {
     ghost fits: { Self → ℕ → Bool };
 
     ghost count: { Self → ℕ };
