@@ -1,6 +1,6 @@
 -- Pairs: when they fit one another and the store below, and that two visible sectors are never served by one.
 use Rattle.std.specs.Prelude.{◌≡◌, ℕ, ◌+◌, ◌<◌, ◌≤◌, max, Bool, true, false, cond, not, ◌&&◌, ◌||◌, ltb, leb, ◌⊎◌, List, [], ◌∷◌, length, Some, None, Option, is_some, IfSome, ◌==◌, ◌≢◌, nat_le, nat_lt, refl}
-use Rattle.std.specs.List.{find, fold, list_any}
+use Rattle.std.specs.List.{find, list_all, list_any}
 use Rattle.std.specs.Option.{MatchOption, option_map}
 use denote.Ref.{Bor}
 use Rattle.std.proofs.Common.{sym, ap, ◌∙◌, inl, inr, arith}
@@ -8,7 +8,6 @@ use Rattle.std.proofs.lemmas.Bool.{ltb-true, lt-ltb, le-ltb, leb-true, le-leb, l
 use Rattle.model.specs.Image.{all}
 use Rattle.store.specs.declared.spares.Spare.{Spare}
 use Rattle.store.specs.Stores.{most_listed, member, distinct, sectors_of, spares_of, pairs_fit, served}
-use Rattle.store.specs.Through.{enough}
 use Rattle.store.specs.Layered.{Serves}
 
 -- the sector that serves s -----------------------------------------------------------------------------------------
@@ -66,31 +65,9 @@ agreeing v ps =
 
 -- the store below --------------------------------------------------------------------------------------------------
 
-and_true : (x : Bool) → (x && true) ≡ x
-and_true true = refl
-and_true false = refl
-
-and_and : (x y z : Bool) → (x && (y && z)) ≡ ((x && y) && z)
-and_and true y z = refl
-and_and false y z = refl
-
-leb_max : (v s n : ℕ) → nat_le (max v (s + 1)) n ≡ (nat_le v n && nat_lt s n)
-leb_max v s n = go (cases_lt n v) (cases_lt s n)
-  where
-    go : (n < v) ⊎ (v ≤ n) → (s < n) ⊎ (n ≤ s) → nat_le (max v (s + 1)) n ≡ (nat_le v n && nat_lt s n)
-    go (inl x) y = lt-leb (max v (s + 1)) n (omega arith) ∙ ap (λ q. q && nat_lt s n) (sym (lt-leb v n x))
-    go (inr x) (inl y) = le-leb (max v (s + 1)) n (omega arith) ∙ (sym (lt-ltb s n y) ∙ ap (λ q. q && nat_lt s n) (sym (le-leb v n x)))
-    go (inr x) (inr y) = lt-leb (max v (s + 1)) n (omega arith) ∙ (sym (le-ltb s n y) ∙ ap (λ q. q && nat_lt s n) (sym (le-leb v n x)))
-
--- the fewest sectors below that have v sectors and the spares
-abbrev pub least_below : ℕ → List Spare → ℕ
-least_below v ps = fold (λ k p. max k (p.spare + 1)) v ps
-
-least_fits : (v : ℕ) (ps : List Spare) (n : ℕ) → (nat_le v n && all (λ s. ltb s n) (spares_of ps)) ≡ nat_le (least_below v ps) n
-least_fits v [] n = and_true (nat_le v n)
-least_fits v (p ∷ ps) n =
-    and_and (nat_le v n) (nat_lt p.spare n) (all (λ s. ltb s n) (spares_of ps))
-    ∙ (ap (λ q. q && all (λ s. ltb s n) (spares_of ps)) (sym (leb_max v p.spare n)) ∙ least_fits (max v (p.spare + 1)) ps n)
+pub all_spares : (f : ℕ → Bool) (ps : List Spare) → list_all (λ p. f p.spare) ps ≡ all f (spares_of ps)
+all_spares f [] = refl
+all_spares f (p ∷ ps) = ap (λ b. f p.spare && b) (all_spares f ps)
 
 -- visible sectors and pairs as the layer keeps them
 module _ (v : ℕ) (ps : List Spare) where
@@ -100,12 +77,12 @@ module _ (v : ℕ) (ps : List Spare) where
   abbrev pub fits : ℕ → Bool
   fits n = pairs_fit v ps && nat_le v n && all (λ s. ltb s n) (spares_of ps)
 
-  pub enough_needed : (need : Option ℕ) {P : ℕ → Type 0} → is_some need ≡ pairs_fit v ps → IfSome need P → ((least : ℕ) → P least → least ≡ least_below v ps) → (n : ℕ) → enough n need ≡ fits n
-  enough_needed None e k h n = ap (λ q. q && nat_le v n && all (λ s. ltb s n) (spares_of ps)) e
-  enough_needed (Some least) e k h n =
-      ap (λ m. leb m n) (h least k)
-      ∙ (sym (least_fits v ps n)
-      ∙ ap (λ q. q && nat_le v n && all (λ s. ltb s n) (spares_of ps)) e)
+  pub suits : (n : ℕ) (r : Bool) → pairs_fit v ps ≡ true → v ≤ n → r ≡ list_all (λ p. nat_lt p.spare n) ps → r ≡ fits n
+  suits n r h k e =
+      e
+      ∙ (all_spares (λ s. ltb s n) ps
+      ∙ sym (ap (λ q. q && nat_le v n && all (λ s. ltb s n) (spares_of ps)) h
+      ∙ ap (λ q. q && all (λ s. ltb s n) (spares_of ps)) (le-leb v n k)))
 
 -- no two visible sectors are served by one -------------------------------------------------------------------------
 

@@ -26,8 +26,3 @@ pub record Ends (i : Image) (s : ℕ) (f : Fault) : Type 0 where
 abbrev pub Led : (Image → Image) → Image → ℕ → Result ℕ Fault → Type 0
 Led layer below s (Ok p) = Leads layer below s p
 Led layer below s (Err f) = Ends (layer below) s f
-
--- n sectors below are as many as are needed; where the need is unknown, no number is
-abbrev pub enough : ℕ → Option ℕ → Bool
-enough n None = false
-enough n (Some least) = nat_le least n

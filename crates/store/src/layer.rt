@@ -1,9 +1,8 @@
 // A layer: a store that serves each of its sectors by one of the store below.
-ghost use Rattle.std.specs.Prelude.{◌≡◌, ℕ, ◌<◌, ◌≤◌, Bool, true};
+ghost use Rattle.std.specs.Prelude.{◌≡◌, ℕ, ◌<◌, ◌≤◌, Bool, true, length};
 ghost use Rattle.model.specs.Sizes.{most_sectors};
 ghost use Rattle.store.specs.Through.{risen_answer, Led};
 ghost use Rattle.store.specs.Stores.{placed};
-ghost use Rattle.store.specs.Layers.{layer_over};
 ghost use Rattle.store.specs.Layered.{Serves, layer_whole};
 
 use crate::faults::here;
@@ -37,21 +36,48 @@ pub(crate) trait Placing: Drop {
     ghost sound: { (p : Self) (below : ℕ) → fits p below ≡ true → Serves below (count p) (serve p) };
 }
 
-// A layer that does not fit the store below has no sector.
+// A layer over the store below.
 #[derive(Drop)]
-pub struct Layer<S, P> {
-    pub(crate) below: S,
-    pub(crate) placing: P,
+pub struct Layer<S: Store, P: Placing> {
+    below: S,
+    placing: P,
+    // none where the layer does not fit
+    sectors: u16,
+    ghost sized: { sectors ≡ length (placed (P.fits placing) (P.count placing) (P.serve placing) (S.image below)) },
 }
 
 impl<S: Store, P: Placing> Layer<S, P> {
+    // Takes the store below. A layer that does not fit has no sector.
+    pub(crate) fn over(below: S, placing: P) -> Layer<S, P>
+        ensures below { result.below ≡ below }
+        ensures placing { result.placing ≡ placing }
+    {
+        let sectors = Layer::count(&below, &placing);
+        Layer {
+            below,
+            placing,
+            sectors,
+        }
+    }
+
     // Hands the store below back.
     pub fn into_below(self) -> S
         ensures below { result ≡ self.below }
-        ensures image { layer_over P.fits P.count P.serve S.image self ≡ placed (P.fits self.placing) (P.count self.placing) (P.serve self.placing) (S.image result) }
+        ensures image { ⟦<Layer<S, P> as Store>⟧.image self ≡ placed (P.fits self.placing) (P.count self.placing) (P.serve self.placing) (S.image result) }
     {
         let Layer { below, .. } = self;
         below
+    }
+
+    // The sectors of what is laid.
+    fn count(below: &S, placing: &P) -> u16
+        ensures { result ≡ length (placed (P.fits placing.now) (P.count placing.now) (P.serve placing.now) (S.image below.now)) }
+    {
+        if placing.fits(below.size()) {
+            placing.count()
+        } else {
+            0
+        }
     }
 
     // The sector below that serves a sector.
@@ -67,16 +93,12 @@ impl<S: Store, P: Placing> Layer<S, P> {
 }
 
 impl<S: Store, P: Placing> Store for Layer<S, P> {
-    ghost image = { layer_over P.fits P.count P.serve S.image };
+    ghost image = { λ l. placed (P.fits l.placing) (P.count l.placing) (P.serve l.placing) (S.image l.below) };
 
     ghost wholeness = { λ l. layer_whole (P.fits l.placing) (P.count l.placing) (P.serve l.placing) (P.sound l.placing) (S.image l.below) (S.wholeness l.below) };
 
     fn size(&self) -> u16 {
-        if self.placing.fits(self.below.size()) {
-            self.placing.count()
-        } else {
-            0
-        }
+        self.sectors
     }
 
     fn read(&mut self, sector: u16, buffer: &mut [u8; SECTOR]) -> Result<(), Fault> {

@@ -30,10 +30,7 @@ impl<S: Store> Window<S> {
         ensures below { result.below ≡ below }
         ensures image { ⟦<Window<S> as Store>⟧.image result ≡ window_image (S.image below) first count }
     {
-        Layer {
-            below,
-            placing: Stretch { first, count },
-        }
+        Layer::over(below, Stretch { first, count })
     }
 }
 

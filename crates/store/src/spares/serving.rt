@@ -1,7 +1,6 @@
 // Spares at work.
-ghost use Rattle.std.specs.Prelude.{◌≡◌, ℕ};
+ghost use Rattle.std.specs.Prelude.{◌≡◌};
 ghost use Rattle.store.specs.Stores.{fit_answer, pairs_fit, spares_fit, served, spares_image};
-ghost use Rattle.store.specs.Through.{enough};
 ghost use Rattle.store.specs.Sparing as sparing;
 ghost use Rattle.store.specs.Sparing.{clash};
 
@@ -17,7 +16,7 @@ impl<S: Store> Spares<S> {
     pub fn fits(below: &S, visible: u16, pairs: &[Spare]) -> Result<(), Refusal>
         ensures { result ≡ fit_answer (spares_fit (S.image below.now) visible pairs.now) }
     {
-        fit(enough(below.size(), needed(visible, pairs)))
+        fit(suit(visible, pairs, below.size()))
     }
 
     // Takes the store below. Spares that do not fit make a store with no sector.
@@ -25,15 +24,7 @@ impl<S: Store> Spares<S> {
         ensures below { result.below ≡ below }
         ensures image { ⟦<Spares<S> as Store>⟧.image result ≡ spares_image (S.image below) visible pairs.items }
     {
-        let need = needed(visible, &pairs);
-        Layer {
-            below,
-            placing: Pairs {
-                visible,
-                pairs,
-                need,
-            },
-        }
+        Layer::over(below, Pairs { visible, pairs })
     }
 }
 
@@ -47,7 +38,7 @@ impl Placing for Pairs {
     ghost sound = { λ s. sparing.sound s.visible s.pairs.items };
 
     fn fits(&self, below: u16) -> bool {
-        enough(below, self.need)
+        suit(self.visible, &self.pairs, below)
     }
 
     fn count(&self) -> u16 {
@@ -69,23 +60,11 @@ fn serving(pairs: &[Spare], sector: u16) -> u16
         .map_or(sector, |pair| pair.spare)
 }
 
-// The sectors that the store below must have for the pairs, if they fit one another.
-fn needed(visible: u16, pairs: &[Spare]) -> Option<u32>
-    ensures { (n : ℕ) → enough n result ≡ sparing.fits visible pairs.now n }
+// Whether the pairs fit one another, and a store of `below` sectors has the visible ones and the spares.
+fn suit(visible: u16, pairs: &[Spare], below: u16) -> bool
+    ensures { result ≡ sparing.fits visible pairs.now below }
 {
-    agree(visible, pairs).then(|| {
-        pairs.iter().fold(
-            u32::from(visible),
-            |least, pair| least.max(u32::from(pair.spare) + 1),
-        )
-    })
-}
-
-// Whether a store below of `size` sectors has as many as are needed.
-fn enough(size: u16, need: Option<u32>) -> bool
-    ensures { result ≡ enough size need }
-{
-    need.is_some_and(|least| least <= u32::from(size))
+    agree(visible, pairs) && visible <= below && pairs.iter().all(|pair| pair.spare < below)
 }
 
 // Whether the pairs fit one another, whatever the store below has.
