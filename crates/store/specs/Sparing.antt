@@ -1,10 +1,10 @@
 -- Pairs: when they fit one another and the store below, and that two visible sectors are never served by one.
-use Rattle.std.specs.Prelude.{◌≡◌, ℕ, ◌+◌, ◌<◌, ◌≤◌, max, Bool, true, false, cond, not, ◌&&◌, ◌||◌, ltb, leb, ◌⊎◌, List, [], ◌∷◌, length, Some, None, Option, is_some, IfSome, ◌==◌, ◌≢◌, nat_le, nat_lt, refl}
+use Rattle.std.specs.Prelude.{◌≡◌, ℕ, ◌<◌, ◌≤◌, Bool, true, false, cond, not, ◌&&◌, ◌||◌, ltb, leb, ◌⊎◌, List, [], ◌∷◌, length, Some, None, Option, ◌==◌, ◌≢◌, nat_le, nat_lt, refl}
 use Rattle.std.specs.List.{find, list_all, list_any}
 use Rattle.std.specs.Option.{MatchOption, option_map}
 use denote.Ref.{Bor}
 use Rattle.std.proofs.Common.{sym, ap, ◌∙◌, inl, inr, arith}
-use Rattle.std.proofs.lemmas.Bool.{ltb-true, lt-ltb, le-ltb, leb-true, le-leb, lt-leb, eq-eqb, ne_eqb, cases_eq, cases_lt, and_parts, not-true, both_ways}
+use Rattle.std.proofs.lemmas.Bool.{ltb-true, leb-true, le-leb, eq-eqb, ne_eqb, cases_eq, and_parts, not-true, both_ways}
 use Rattle.model.specs.Image.{all}
 use Rattle.store.specs.declared.spares.Spare.{Spare}
 use Rattle.store.specs.Stores.{most_listed, member, distinct, sectors_of, spares_of, pairs_fit, served}

@@ -1,5 +1,5 @@
 -- What a layer computes on the way to the store below.
-use Rattle.std.specs.Prelude.{◌≡◌, ℕ, ◌+◌, min, Bool, false, List, Some, None, Ok, Err, Option, Result, nat_le}
+use Rattle.std.specs.Prelude.{◌≡◌, ℕ, ◌+◌, min, List, Ok, Err, Result}
 use Rattle.model.specs.Sizes.{deepest}
 use Rattle.model.specs.Image.{Image, access, filled, put}
 use Rattle.model.specs.declared.types.Fault.{Fault}

@@ -6,7 +6,6 @@ ghost use Rattle.model.specs.Image.{Image, whole, access, filled, put};
 
 use model::types::Fault;
 
-mod bottom;
 mod faults;
 pub mod flat;
 mod layer;

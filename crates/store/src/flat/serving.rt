@@ -1,14 +1,14 @@
 // The flat store at work.
-ghost use Rattle.std.specs.Prelude.{◌≡◌, length};
+ghost use Rattle.std.specs.Prelude.{◌≡◌, length, Ok};
+ghost use Rattle.model.specs.Image.{access, filled, put};
 ghost use Rattle.store.specs.Bottoms.{flat_of};
 ghost use Rattle.store.specs.Stores.{fit_answer, flat_fits, flat_image};
 ghost use Rattle.store.specs.Flats.{flat_whole};
 
 use super::Flat;
-use crate::bottom::Bottom;
-use crate::faults::fit;
-use crate::{MOST_LISTED, MOST_SECTORS, SECTOR, stretch};
-use model::types::Refusal;
+use crate::faults::{fit, here};
+use crate::{MOST_LISTED, MOST_SECTORS, SECTOR, Store, stretch};
+use model::types::{Cause, Fault, Refusal};
 
 impl Flat {
     // The question put first: whole sectors, 65,535 at most, and at most eight dead numbers.
@@ -46,26 +46,55 @@ impl Flat {
     {
         Flat::fits(buffer, dead).map_or(0, |()| (buffer.len() / SECTOR) as u16)
     }
+
+    // What a read and a write of the sector answer.
+    fn check(&self, sector: u16) -> Result<(), Fault>
+        ensures { result ≡ access (flat_of self.now) sector }
+    {
+        if sector >= self.size() {
+            Err(here(Cause::PastEnd, sector))
+        } else if self.dead.contains(&sector) {
+            Err(here(Cause::Dead, sector))
+        } else {
+            Ok(())
+        }
+    }
+
+    // Fills the buffer from a sector that was checked.
+    fn fill(&self, sector: u16, buffer: &mut [u8; SECTOR])
+        requires { access (flat_of self.now) sector ≡ Ok tt }
+        ensures { buffer.new ≡ filled (flat_of self.now) sector buffer.old }
+    {
+        stretch::copy_out(&self.buffer, usize::from(sector), buffer);
+    }
+
+    // Replaces the bytes of a sector that was checked.
+    fn replace(&mut self, sector: u16, bytes: &[u8; SECTOR])
+        requires { access (flat_of self.old) sector ≡ Ok tt }
+        ensures { flat_of self.new ≡ put (flat_of self.old) sector bytes.now }
+    {
+        stretch::copy_in(&mut self.buffer, usize::from(sector), bytes);
+    }
 }
 
-impl Bottom for Flat {
+impl Store for Flat {
     ghost image = { flat_of };
 
     ghost wholeness = { λ s. flat_whole s.buffer.items s.dead.items };
 
-    fn sectors(&self) -> u16 {
+    fn size(&self) -> u16 {
         self.sectors
     }
 
-    fn is_dead(&self, sector: u16) -> bool {
-        self.dead.contains(&sector)
+    fn read(&mut self, sector: u16, buffer: &mut [u8; SECTOR]) -> Result<(), Fault> {
+        self.check(sector)?;
+        self.fill(sector, buffer);
+        Ok(())
     }
 
-    fn fill(&self, sector: u16, buffer: &mut [u8; SECTOR]) {
-        stretch::copy_out(&self.buffer, usize::from(sector), buffer);
-    }
-
-    fn replace(&mut self, sector: u16, bytes: &[u8; SECTOR]) {
-        stretch::copy_in(&mut self.buffer, usize::from(sector), bytes);
+    fn write(&mut self, sector: u16, bytes: &[u8; SECTOR]) -> Result<(), Fault> {
+        self.check(sector)?;
+        self.replace(sector, bytes);
+        Ok(())
     }
 }

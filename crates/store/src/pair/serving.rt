@@ -1,14 +1,14 @@
 // The store of two buffers at work.
-ghost use Rattle.std.specs.Prelude.{◌≡◌, length};
+ghost use Rattle.std.specs.Prelude.{◌≡◌, length, Ok};
+ghost use Rattle.model.specs.Image.{access, filled, put};
 ghost use Rattle.store.specs.Bottoms.{pair_of};
 ghost use Rattle.store.specs.Stores.{fit_answer, pair_fits, pair_image};
 ghost use Rattle.store.specs.Pairs.{pair_whole};
 
 use super::Pair;
-use crate::bottom::Bottom;
-use crate::faults::fit;
-use crate::{SECTOR, stretch};
-use model::types::Refusal;
+use crate::faults::{fit, here};
+use crate::{SECTOR, Store, stretch};
+use model::types::{Cause, Fault, Refusal};
 
 // The most sectors of each of the two buffers.
 const MOST_OF_PAIR: usize = 32_767;
@@ -45,22 +45,23 @@ impl Pair {
     {
         Pair::fits(even, odd).map_or(0, |()| (2 * (even.len() / SECTOR)) as u16)
     }
-}
 
-impl Bottom for Pair {
-    ghost image = { pair_of };
-
-    ghost wholeness = { λ s. pair_whole s.even.items s.odd.items };
-
-    fn sectors(&self) -> u16 {
-        self.sectors
+    // What a read and a write of the sector answer.
+    fn check(&self, sector: u16) -> Result<(), Fault>
+        ensures { result ≡ access (pair_of self.now) sector }
+    {
+        if sector >= self.size() {
+            Err(here(Cause::PastEnd, sector))
+        } else {
+            Ok(())
+        }
     }
 
-    fn is_dead(&self, _sector: u16) -> bool {
-        false
-    }
-
-    fn fill(&self, sector: u16, buffer: &mut [u8; SECTOR]) {
+    // Fills the buffer from a sector that was checked.
+    fn fill(&self, sector: u16, buffer: &mut [u8; SECTOR])
+        requires { access (pair_of self.now) sector ≡ Ok tt }
+        ensures { buffer.new ≡ filled (pair_of self.now) sector buffer.old }
+    {
         let k = usize::from(sector / 2);
         if sector % 2 == 0 {
             stretch::copy_out(&self.even, k, buffer);
@@ -69,12 +70,38 @@ impl Bottom for Pair {
         }
     }
 
-    fn replace(&mut self, sector: u16, bytes: &[u8; SECTOR]) {
+    // Replaces the bytes of a sector that was checked.
+    fn replace(&mut self, sector: u16, bytes: &[u8; SECTOR])
+        requires { access (pair_of self.old) sector ≡ Ok tt }
+        ensures { pair_of self.new ≡ put (pair_of self.old) sector bytes.now }
+    {
         let k = usize::from(sector / 2);
         if sector % 2 == 0 {
             stretch::copy_in(&mut self.even, k, bytes);
         } else {
             stretch::copy_in(&mut self.odd, k, bytes);
         }
+    }
+}
+
+impl Store for Pair {
+    ghost image = { pair_of };
+
+    ghost wholeness = { λ s. pair_whole s.even.items s.odd.items };
+
+    fn size(&self) -> u16 {
+        self.sectors
+    }
+
+    fn read(&mut self, sector: u16, buffer: &mut [u8; SECTOR]) -> Result<(), Fault> {
+        self.check(sector)?;
+        self.fill(sector, buffer);
+        Ok(())
+    }
+
+    fn write(&mut self, sector: u16, bytes: &[u8; SECTOR]) -> Result<(), Fault> {
+        self.check(sector)?;
+        self.replace(sector, bytes);
+        Ok(())
     }
 }

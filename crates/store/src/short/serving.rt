@@ -1,14 +1,14 @@
 // The short store at work.
-ghost use Rattle.std.specs.Prelude.{◌≡◌, length};
+ghost use Rattle.std.specs.Prelude.{◌≡◌, length, Ok};
+ghost use Rattle.model.specs.Image.{access, filled, put};
 ghost use Rattle.store.specs.Bottoms.{short_of};
 ghost use Rattle.store.specs.Stores.{fit_answer, short_fits, short_image, short_lives, short_place};
 ghost use Rattle.store.specs.Shorts.{short_whole};
 
 use super::Short;
-use crate::bottom::Bottom;
-use crate::faults::fit;
-use crate::{SECTOR, stretch};
-use model::types::Refusal;
+use crate::faults::{fit, here};
+use crate::{SECTOR, Store, stretch};
+use model::types::{Cause, Fault, Refusal};
 
 // The sectors below LOW are live, and those from TABLES on.
 const LOW: u16 = 0x40;
@@ -52,6 +52,35 @@ impl Short {
     {
         Short::fits(buffer).map_or(0, |()| SECTORS)
     }
+
+    // What a read and a write of the sector answer.
+    fn check(&self, sector: u16) -> Result<(), Fault>
+        ensures { result ≡ access (short_of self.now) sector }
+    {
+        if sector >= self.size() {
+            Err(here(Cause::PastEnd, sector))
+        } else if lives(sector) {
+            Ok(())
+        } else {
+            Err(here(Cause::Dead, sector))
+        }
+    }
+
+    // Fills the buffer from a sector that was checked.
+    fn fill(&self, sector: u16, buffer: &mut [u8; SECTOR])
+        requires { access (short_of self.now) sector ≡ Ok tt }
+        ensures { buffer.new ≡ filled (short_of self.now) sector buffer.old }
+    {
+        stretch::copy_out(&self.buffer, place(sector), buffer);
+    }
+
+    // Replaces the bytes of a sector that was checked.
+    fn replace(&mut self, sector: u16, bytes: &[u8; SECTOR])
+        requires { access (short_of self.old) sector ≡ Ok tt }
+        ensures { short_of self.new ≡ put (short_of self.old) sector bytes.now }
+    {
+        stretch::copy_in(&mut self.buffer, place(sector), bytes);
+    }
 }
 
 fn lives(sector: u16) -> bool
@@ -71,24 +100,24 @@ fn place(sector: u16) -> usize
     }
 }
 
-impl Bottom for Short {
+impl Store for Short {
     ghost image = { short_of };
 
     ghost wholeness = { λ s. short_whole s.buffer.items };
 
-    fn sectors(&self) -> u16 {
+    fn size(&self) -> u16 {
         self.sectors
     }
 
-    fn is_dead(&self, sector: u16) -> bool {
-        !lives(sector)
+    fn read(&mut self, sector: u16, buffer: &mut [u8; SECTOR]) -> Result<(), Fault> {
+        self.check(sector)?;
+        self.fill(sector, buffer);
+        Ok(())
     }
 
-    fn fill(&self, sector: u16, buffer: &mut [u8; SECTOR]) {
-        stretch::copy_out(&self.buffer, place(sector), buffer);
-    }
-
-    fn replace(&mut self, sector: u16, bytes: &[u8; SECTOR]) {
-        stretch::copy_in(&mut self.buffer, place(sector), bytes);
+    fn write(&mut self, sector: u16, bytes: &[u8; SECTOR]) -> Result<(), Fault> {
+        self.check(sector)?;
+        self.replace(sector, bytes);
+        Ok(())
     }
 }

@@ -6,8 +6,8 @@ use Rattle.store.specs.Stores.{flat_image}
 use Rattle.store.specs.Flats.{flat_room, flat_put}
 use Rattle.store.specs.Stretches.{room_at, copied}
 use Rattle.store.specs.Tabled.{length_put}
-use Rattle.store.proofs.flat.serving.FlatBottom.replace.Goals as goal
-use Rattle.store.proofs.flat.serving.FlatBottom.replace.Goals.{After-copy_in}
+use Rattle.store.proofs.flat.Flat.replace.Goals as goal
+use Rattle.store.proofs.flat.Flat.replace.Goals.{After-copy_in}
 
 pub copy_in-requires : goal.copy_in-requires
 copy_in-requires c =

@@ -6,8 +6,8 @@ use Rattle.store.specs.Stores.{short_place, short_image}
 use Rattle.store.specs.Shorts.{short_room, short_put}
 use Rattle.store.specs.Stretches.{room_at, copied}
 use Rattle.store.specs.Tabled.{length_put}
-use Rattle.store.proofs.short.serving.ShortBottom.replace.Goals as goal
-use Rattle.store.proofs.short.serving.ShortBottom.replace.Goals.{After-copy_in}
+use Rattle.store.proofs.short.Short.replace.Goals as goal
+use Rattle.store.proofs.short.Short.replace.Goals.{After-copy_in}
 
 pub copy_in-requires : goal.copy_in-requires
 copy_in-requires c =

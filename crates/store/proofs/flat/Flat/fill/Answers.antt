@@ -4,7 +4,7 @@ use Rattle.store.specs.Stores.{stretch}
 use Rattle.store.specs.Flats.{flat_room, flat_seen}
 use Rattle.store.specs.Stretches.{room_at}
 use Rattle.store.specs.Tabled.{filled_at}
-use Rattle.store.proofs.flat.serving.FlatBottom.fill.Goals as goal
+use Rattle.store.proofs.flat.Flat.fill.Goals as goal
 
 pub copy_out-requires : goal.copy_out-requires
 copy_out-requires c =

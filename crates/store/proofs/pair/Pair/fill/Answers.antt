@@ -5,8 +5,8 @@ use Rattle.store.specs.Stores.{stretch}
 use Rattle.store.specs.Pairs.{half, is_even, is_odd, pair_room, pair_seen}
 use Rattle.store.specs.Stretches.{room_at}
 use Rattle.store.specs.Tabled.{filled_at}
-use Rattle.store.proofs.pair.serving.PairBottom.fill.Goals as goal
-use Rattle.store.proofs.pair.serving.PairBottom.fill.Goals.{After-from-k}
+use Rattle.store.proofs.pair.Pair.fill.Goals as goal
+use Rattle.store.proofs.pair.Pair.fill.Goals.{After-from-k}
 
 -- what is copied out of the sector's buffer is what stands at the sector
 copied_out : (c : After-from-k) (b : Bool) (was out : List ℕ) → eqb (c.args.sector % 2) 0 ≡ b → was ≡ half b (vec_items c.args.self.now.even) (vec_items c.args.self.now.odd) → out ≡ stretch was c.from-k.result → out ≡ filled (pair_of c.args.self.now) c.args.sector c.args.buffer.now

@@ -4,7 +4,7 @@ use Rattle.store.specs.Stores.{stretch, short_place}
 use Rattle.store.specs.Shorts.{short_room, short_seen}
 use Rattle.store.specs.Stretches.{room_at}
 use Rattle.store.specs.Tabled.{filled_at}
-use Rattle.store.proofs.short.serving.ShortBottom.fill.Goals as goal
+use Rattle.store.proofs.short.Short.fill.Goals as goal
 
 pub copy_out-requires : goal.copy_out-requires
 copy_out-requires c =

@@ -6,8 +6,8 @@ use Rattle.store.specs.Stores.{pair_image}
 use Rattle.store.specs.Pairs.{is_even, is_odd, pair_room, pair_put}
 use Rattle.store.specs.Stretches.{room_at, copied}
 use Rattle.store.specs.Tabled.{length_put}
-use Rattle.store.proofs.pair.serving.PairBottom.replace.Goals as goal
-use Rattle.store.proofs.pair.serving.PairBottom.replace.Goals.{After-copy_in, After-copy_in-else-sector-eq0}
+use Rattle.store.proofs.pair.Pair.replace.Goals as goal
+use Rattle.store.proofs.pair.Pair.replace.Goals.{After-copy_in, After-copy_in-else-sector-eq0}
 
 written_even : (c : After-copy_in) → pair_image (vec_items (with_items c.args.self.now.even c.copy_in.new.target)) (vec_items c.args.self.now.odd) ≡ put (pair_of c.args.self.now) c.args.sector c.args.bytes.now
 written_even c =
