@@ -1,15 +1,14 @@
 -- The flat store: what stands at a sector, and what a write to its stretch makes of the image.
-use Rattle.std.specs.Prelude.{◌≡◌, ℕ, ◌+◌, ◌*◌, ◌/◌, ◌%◌, ◌<◌, ◌≤◌, Bool, true, false, cond, ◌&&◌, ◌⊎◌, List, length, Ok, Err, Result, ◌==◌, ◌≢◌, nat_eq, nat_le, refl}
+use Rattle.std.specs.Prelude.{◌≡◌, ℕ, ◌+◌, ◌*◌, ◌/◌, ◌%◌, ◌<◌, ◌≤◌, Bool, true, false, cond, ◌&&◌, ◌⊎◌, List, length, Ok, Err, ◌==◌, ◌≢◌, nat_eq, nat_le, refl}
 use Rattle.std.proofs.Common.{sym, ap, ◌∙◌, inl, inr}
 use Rattle.std.proofs.lemmas.List.Elements.{contains_decides}
 use Rattle.std.proofs.lemmas.Bool.{and_parts, eq-eqb, cases_Bool}
 use Rattle.std.proofs.lemmas.Bool.Decides.{same_from_decides, Decides-eqb, Decides-like, Decides-by_or}
 use Rattle.std.specs.List.{IsAnyAnswer}
-use Rattle.model.specs.declared.types.Refusal.{Refusal}
 use Rattle.model.specs.Sizes.{most_sectors}
 use Rattle.model.specs.Image.{Image, Sector, bytes, dead, from_to, whole_sector, whole, dead_at, seen, look, done_or_fault, access, put}
-use Rattle.store.specs.Stores.{fit_answer, laid, member, most_listed, whole_sectors, stretch, flat_fits, flat_sector, flat_image}
-use Rattle.store.specs.Laid.{length_fit, whole_laid, inside_laid, look_laid, put_laid, inside_accepted, never_both}
+use Rattle.store.specs.Stores.{laid, member, most_listed, whole_sectors, stretch, flat_fits, flat_sector, flat_image}
+use Rattle.store.specs.Laid.{whole_laid, inside_laid, look_laid, put_laid, inside_accepted, never_both}
 use Rattle.store.specs.Stretches.{count_most, room_for, length_stretch, Copied}
 
 -- what `contains` answers
@@ -25,9 +24,6 @@ by_length deads m f =
 module _ (buffer deads : List ℕ) where
   abbrev count : ℕ
   count = length buffer / 512
-
-  pub flat_size : (u : Unit {0}) → ◌≡◌ {A = Result (Unit {0}) Refusal} (Ok u) (fit_answer (flat_fits buffer deads)) → length (flat_image buffer deads) ≡ length buffer / 512
-  flat_size = length_fit (flat_fits buffer deads) count (flat_sector buffer deads)
 
   pub flat_whole : whole (flat_image buffer deads) ≡ true
   flat_whole = whole_laid (flat_fits buffer deads) count (flat_sector buffer deads) few each

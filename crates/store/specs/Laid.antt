@@ -1,5 +1,6 @@
 -- A table that is laid: the image where the buffers fit, and no sector where they do not.
 use Rattle.std.specs.Prelude.{◌≡◌, ℕ, ◌<◌, ◌≤◌, Bool, true, false, ◌⊎◌, List, length, Ok, Err, Result, ◌≢◌, refl}
+use Rattle.std.specs.Result.{MatchResult}
 use Rattle.std.proofs.Common.{sym, subst, ◌∙◌, inl, inr, arith}
 use Rattle.std.proofs.lemmas.Bool.{cases_lt}
 use Rattle.model.specs.declared.types.Fault.{Fault}
@@ -9,10 +10,13 @@ use Rattle.model.specs.Image.{Image, Sector, bytes, from_to, whole_sector, whole
 use Rattle.store.specs.Stores.{fit_answer, laid}
 use Rattle.store.specs.Tabled.{length_table, whole_table, look_table, look_outside, put_table, access_at}
 
--- the size, by what the question whether it fits was answered
-pub length_fit : (b : Bool) (n : ℕ) (f : ℕ → Sector) (u : Unit {0}) → ◌≡◌ {A = Result (Unit {0}) Refusal} (Ok u) (fit_answer b) → length (laid b (from_to 0 n f)) ≡ n
-length_fit true n f u e = length_table n f
-length_fit false n f u e = let z : ◌≡◌ {A = ℕ} 0 1 = cc in cc
+-- what is counted where the question whether it fits was answered by yes, and 0 else, is the size
+pub counted : (b : Bool) (n m : ℕ) (f : ℕ → Sector) (r : Result (Unit {0}) Refusal) {P : Unit {0} → Type 0} → r ≡ fit_answer b → ((u : Unit {0}) → P u → m ≡ n) → MatchResult r P (λ _. m ≡ 0) → m ≡ length (laid b (from_to 0 n f))
+counted b n m f r {P} e h p = go b (subst (λ x. MatchResult x P (λ _. m ≡ 0)) e p)
+  where
+    go : (b : Bool) → MatchResult (fit_answer b) P (λ _. m ≡ 0) → m ≡ length (laid b (from_to 0 n f))
+    go true q = h tt q ∙ sym (length_table n f)
+    go false q = q
 
 pub whole_laid : (b : Bool) (n : ℕ) (f : ℕ → Sector) → (b ≡ true → n ≤ most_sectors) → (b ≡ true → (s : ℕ) → s < n → whole_sector (f s) ≡ true) → whole (laid b (from_to 0 n f)) ≡ true
 whole_laid true n f l h = whole_table n f (l refl) (h refl)

@@ -1,11 +1,12 @@
 -- A layer over any store: what an access at one of its sectors meets, and what a write there leaves.
-use Rattle.std.specs.Prelude.{◌≡◌, ℕ, ◌<◌, ◌≤◌, Bool, true, false, cond, List, length, Ok, Err, slice_index_or, slice_set, refl}
+use Rattle.std.specs.Prelude.{◌≡◌, ℕ, ◌<◌, ◌≤◌, Bool, true, false, cond, List, length, Ok, slice_index_or, slice_set, refl}
 use Rattle.std.proofs.Common.{sym, ap, subst, ◌∙◌, le_trans, arith}
 use Rattle.std.proofs.lemmas.List.{get_or-set_same, get_or-set_other}
-use Rattle.model.specs.Image.{Image, Sector, bytes, dead, whole, whole_sector, past_end_at, seen, look, done_or_fault, access, bytes_or, filled, put, risen}
-use Rattle.store.specs.Stores.{fit_answer, laid, layered}
-use Rattle.store.specs.Through.{risen_answer, Leads, Ends}
-use Rattle.store.specs.Tabled.{length_table, length_put, put_table, put_at, put_refused, look_table, look_inside, look_outside, whole_table, get_or_whole, length_whole, access_at, filled_at}
+use Rattle.model.specs.Sizes.{most_sectors}
+use Rattle.model.specs.Image.{Image, Sector, bytes, dead, whole, whole_sector, seen, look, done_or_fault, access, bytes_or, filled, put, risen}
+use Rattle.store.specs.Stores.{laid, layered, placed}
+use Rattle.store.specs.Through.{risen_answer, Leads}
+use Rattle.store.specs.Tabled.{length_table, length_put, put_table, put_at, put_refused, look_table, look_inside, whole_table, get_or_whole, length_whole, access_at, filled_at}
 
 -- one sector up ----------------------------------------------------------------------------------------------------
 
@@ -84,13 +85,9 @@ length_laid false below c serve = refl
 pub size_fits : (b : Bool) (below : Image) (c : ℕ) (serve : ℕ → ℕ) → b ≡ true → c ≡ length (laid b (layered below c serve))
 size_fits b below c serve e = sym (length_laid b below c serve ∙ ap (λ x. cond x c 0) e)
 
-pub fit_true : (b : Bool) → Ok tt ≡ fit_answer b → b ≡ true
-fit_true true e = refl
-fit_true false e = let z : ◌≡◌ {A = ℕ} 0 1 = cc in absurd (omega arith)
-
 module _ (fits : ℕ → Bool) (c : ℕ) (serve : ℕ → ℕ) (sound : (n : ℕ) → fits n ≡ true → Serves n c serve) where
   abbrev up : Image → Image
-  up i = laid (fits (length i)) (layered i c serve)
+  up i = placed fits c serve i
 
   pub layer_whole : (i : Image) → whole i ≡ true → whole (up i) ≡ true
   layer_whole i w = go (fits (length i)) refl
@@ -107,13 +104,8 @@ module _ (fits : ℕ → Bool) (c : ℕ) (serve : ℕ → ℕ) (sound : (n : ℕ
       go true k = (refl, k)
       go false k = absurd (omega arith)
 
-  pub layer_inside : (i : Image) (s : ℕ) → s < length (up i) → serve s < length i
-  layer_inside i s l = let h = has i s l in (sound (length i) h.0).inside s h.1
-
-  -- an access at a sector of the layer goes on to the one that serves it, and any other ends in the layer
-  pub layer_leads : (i : Image) (s : ℕ) → s < length (up i) → Leads up i s (serve s)
-  layer_leads i s l =
-      let h = has i s l in
+  leads : (i : Image) (s : ℕ) → (fits (length i) ≡ true) × (s < c) → Leads up i s (serve s)
+  leads i s h =
       let v = sound (length i) h.0 in
       let e : layered i c serve ≡ up i = ap (λ b. laid b (layered i c serve)) (sym h.0) in
       record {
@@ -127,11 +119,8 @@ module _ (fits : ℕ → Bool) (c : ℕ) (serve : ℕ → ℕ) (sound : (n : ℕ
             ∙ ap (λ n. laid (fits n) (layered (put i (serve s) new) c serve)) (sym (length_put i (serve s) new))));
       }
 
-  pub layer_ends : (i : Image) (s : ℕ) → length (up i) ≤ s → Ends (up i) s (past_end_at s)
-  layer_ends i s l =
-      let e = look_outside (up i) s l in
-      record {
-        answer = access_at (up i) s (Err (past_end_at s)) e;
-        reads = λ old. filled_at (up i) s old (Err (past_end_at s)) e;
-        writes = λ new. put_at (up i) s new (Err (past_end_at s)) e;
-      }
+  -- an access at a sector of the layer goes on to the place that was found for it, and any other ends in the layer
+  pub layer_leads : (i : Image) (s p : ℕ) → whole i ≡ true → ((n : ℕ) → n ≤ most_sectors → fits n ≡ true → s < c → p ≡ serve s) → s < length (up i) → Leads up i s p
+  layer_leads i s p w found l =
+      let h = has i s l in
+      subst (Leads up i s) (sym (found (length i) (length_whole i w) h.0 h.1)) (leads i s h)

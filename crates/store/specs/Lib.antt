@@ -1,7 +1,6 @@
 pub mod Stores
 pub mod Bottoms
 pub mod Through
-pub mod Layers
 pub mod Layered
 pub mod Tabled
 pub mod Windows

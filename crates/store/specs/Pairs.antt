@@ -1,12 +1,11 @@
 -- The store of two buffers: what stands at a sector, and what a write to its stretch makes of the image.
-use Rattle.std.specs.Prelude.{◌≡◌, ℕ, ◌+◌, ◌*◌, ◌/◌, ◌%◌, ◌<◌, ◌≤◌, Bool, true, false, cond, ◌&&◌, List, length, Ok, Result, ◌==◌, ◌≢◌, nat_eq, nat_le, refl}
+use Rattle.std.specs.Prelude.{◌≡◌, ℕ, ◌+◌, ◌*◌, ◌/◌, ◌%◌, ◌<◌, ◌≤◌, Bool, true, false, cond, ◌&&◌, List, length, Ok, ◌==◌, ◌≢◌, nat_eq, nat_le, refl}
 use Rattle.std.proofs.Common.{sym, ap, subst, ◌∙◌, arith}
 use Rattle.std.proofs.lemmas.Bool.{and_parts, eqb-true, eqb-false, eq-eqb, ne_eqb}
-use Rattle.model.specs.declared.types.Refusal.{Refusal}
 use Rattle.model.specs.Sizes.{most_sectors}
 use Rattle.model.specs.Image.{Image, Sector, bytes, from_to, whole_sector, whole, look, done_or_fault, access, put}
-use Rattle.store.specs.Stores.{fit_answer, laid, whole_sectors, stretch, most_of_pair, pair_fits, pair_sector, pair_image}
-use Rattle.store.specs.Laid.{length_fit, whole_laid, inside_laid, look_laid, put_laid, inside_accepted}
+use Rattle.store.specs.Stores.{laid, whole_sectors, stretch, most_of_pair, pair_fits, pair_sector, pair_image}
+use Rattle.store.specs.Laid.{whole_laid, inside_laid, look_laid, put_laid, inside_accepted}
 use Rattle.store.specs.Stretches.{count_most, room_for, length_stretch, Copied}
 
 -- an image of two buffers, by their lengths
@@ -40,9 +39,6 @@ apart s t b ne p q e = go s t ne (parity t b p ∙ sym (parity s b q)) e
 module _ (even odd : List ℕ) where
   abbrev count : ℕ
   count = 2 * (length even / 512)
-
-  pub pair_size : (u : Unit {0}) → ◌≡◌ {A = Result (Unit {0}) Refusal} (Ok u) (fit_answer (pair_fits even odd)) → length (pair_image even odd) ≡ 2 * (length even / 512)
-  pair_size = length_fit (pair_fits even odd) count (pair_sector even odd)
 
   fit_parts : pair_fits even odd ≡ true → ((length even == length odd) ≡ true) × (whole_sectors most_of_pair even ≡ true)
   fit_parts h = and_parts (length even == length odd) (whole_sectors most_of_pair even) h

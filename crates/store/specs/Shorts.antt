@@ -1,12 +1,11 @@
 -- The short store: what stands at a sector, and what a write to its stretch makes of the image.
-use Rattle.std.specs.Prelude.{◌≡◌, ℕ, ◌+◌, ◌-◌, ◌*◌, ◌<◌, ◌≤◌, Bool, true, false, cond, ◌⊎◌, List, length, Ok, Err, Result, ◌==◌, ◌≢◌, nat_le, nat_lt, refl}
+use Rattle.std.specs.Prelude.{◌≡◌, ℕ, ◌+◌, ◌-◌, ◌*◌, ◌<◌, ◌≤◌, Bool, true, false, cond, ◌⊎◌, List, length, Ok, Err, ◌==◌, ◌≢◌, nat_le, nat_lt, refl}
 use Rattle.std.proofs.Common.{sym, ap, subst, ◌∙◌, inl, inr, arith}
 use Rattle.std.proofs.lemmas.Bool.{eqb-true, eq-eqb, ltb-true, leb-true, lt-ltb, le-ltb, or_cases, cases_Bool}
-use Rattle.model.specs.declared.types.Refusal.{Refusal}
 use Rattle.model.specs.Sizes.{most_sectors}
 use Rattle.model.specs.Image.{Image, Sector, bytes, dead, from_to, whole_sector, whole, dead_at, seen, look, done_or_fault, access, put}
-use Rattle.store.specs.Stores.{fit_answer, laid, stretch, short_bytes, short_size, short_fits, short_lives, short_place, short_sector, short_image}
-use Rattle.store.specs.Laid.{length_fit, whole_laid, inside_laid, look_laid, put_laid, inside_accepted, never_both}
+use Rattle.store.specs.Stores.{laid, stretch, short_bytes, short_size, short_fits, short_lives, short_place, short_sector, short_image}
+use Rattle.store.specs.Laid.{whole_laid, inside_laid, look_laid, put_laid, inside_accepted, never_both}
 use Rattle.store.specs.Stretches.{length_stretch, Copied}
 
 pub size_is : short_size ≡ 260
@@ -49,9 +48,6 @@ abbrev by_length : ℕ → (ℕ → Sector) → Image
 by_length m f = laid (m == short_bytes) (from_to 0 short_size f)
 
 module _ (buffer : List ℕ) where
-  pub short_count : (u : Unit {0}) → ◌≡◌ {A = Result (Unit {0}) Refusal} (Ok u) (fit_answer (short_fits buffer)) → length (short_image buffer) ≡ 260
-  short_count u e = length_fit (short_fits buffer) short_size (short_sector buffer) u e ∙ size_is
-
   room : (s : ℕ) → short_fits buffer ≡ true → s < short_size → short_lives s ≡ true → 512 * short_place s + 512 ≤ length buffer
   room s h l a = subst (λ n. 512 * short_place s + 512 ≤ n) (sym (eqb-true (length buffer) short_bytes h)) (room_placed s (short_place s) (placed s a) (subst (λ n. s < n) size_is l))
 

@@ -1,24 +1,39 @@
 -- Pairs: when they fit one another and the store below, and that two visible sectors are never served by one.
-use Rattle.std.specs.Prelude.{◌≡◌, ℕ, ◌+◌, ◌-◌, ◌<◌, ◌≤◌, max, Bool, true, false, cond, not, ◌&&◌, ◌||◌, ltb, leb, ◌⊎◌, List, [], ◌∷◌, length, take, drop, ◌==◌, ◌≢◌, nat_le, nat_lt, refl}
+use Rattle.std.specs.Prelude.{◌≡◌, ℕ, ◌<◌, ◌≤◌, Bool, true, false, cond, not, ◌&&◌, ◌||◌, ltb, leb, ◌⊎◌, List, [], ◌∷◌, length, Some, None, Option, ◌==◌, ◌≢◌, nat_le, nat_lt, refl}
+use Rattle.std.specs.List.{find, list_all, list_any}
+use Rattle.std.specs.Option.{MatchOption, option_map}
+use denote.Ref.{Bor}
 use Rattle.std.proofs.Common.{sym, ap, ◌∙◌, inl, inr, arith}
-use Rattle.std.proofs.lemmas.List.{take_rest}
-use Rattle.std.proofs.lemmas.Bool.{ltb-true, lt-ltb, le-ltb, leb-true, le-leb, lt-leb, eq-eqb, ne_eqb, cases_eq, cases_lt, and_parts, not-true, both_ways}
+use Rattle.std.proofs.lemmas.Bool.{ltb-true, leb-true, le-leb, eq-eqb, ne_eqb, cases_eq, and_parts, not-true, both_ways}
 use Rattle.model.specs.Image.{all}
 use Rattle.store.specs.declared.spares.Spare.{Spare}
 use Rattle.store.specs.Stores.{most_listed, member, distinct, sectors_of, spares_of, pairs_fit, served}
 use Rattle.store.specs.Layered.{Serves}
 
--- what stands past the end of a list of pairs
-abbrev pub no_pair : Spare
-no_pair = record { sector = 0; spare = 0 }
-
 -- the sector that serves s -----------------------------------------------------------------------------------------
 
-pub served_here : (p : Spare) (ps : List Spare) (s : ℕ) → p.sector ≡ s → served (p ∷ ps) s ≡ p.spare
+served_here : (p : Spare) (ps : List Spare) (s : ℕ) → p.sector ≡ s → served (p ∷ ps) s ≡ p.spare
 served_here p ps s e = ap (λ b. cond b p.spare (served ps s)) (eq-eqb s p.sector (sym e))
 
-pub served_on : (p : Spare) (ps : List Spare) (s : ℕ) → (p.sector ≢ s) → served (p ∷ ps) s ≡ served ps s
+served_on : (p : Spare) (ps : List Spare) (s : ℕ) → (p.sector ≢ s) → served (p ∷ ps) s ≡ served ps s
 served_on p ps s ne = ap (λ b. cond b p.spare (served ps s)) (ne_eqb s p.sector (λ e. ne (sym e)))
+
+-- as a search finds it
+abbrev spare_or : ℕ → Option Spare → ℕ
+spare_or s None = s
+spare_or s (Some p) = p.spare
+
+served_sought : (ps : List Spare) (s : ℕ) → served ps s ≡ spare_or s (find (λ p. s == p.sector) ps)
+served_sought [] s = refl
+served_sought (p ∷ ps) s = go (s == p.sector) (served_sought ps s)
+  where
+    go : (b : Bool) → served ps s ≡ spare_or s (find (λ p. s == p.sector) ps) → cond b p.spare (served ps s) ≡ spare_or s (cond b (Some p) (find (λ p. s == p.sector) ps))
+    go true later = refl
+    go false later = later
+
+pub served_found : (ps : List Spare) (s m : ℕ) (r : Option (Bor Spare)) {P : Bor Spare → Type 0} → option_map (λ x. x.now) r ≡ find (λ p. s == p.sector) ps → ((x : Bor Spare) → P x → m ≡ x.now.spare) → MatchOption r (m ≡ s) P → m ≡ served ps s
+served_found ps s m None e h k = k ∙ sym (served_sought ps s ∙ ap (spare_or s) (sym e))
+served_found ps s m (Some x) e h k = h x k ∙ sym (served_sought ps s ∙ ap (spare_or s) (sym e))
 
 -- a pair among others ----------------------------------------------------------------------------------------------
 
@@ -29,23 +44,17 @@ or_true : (x : Bool) → (x || true) ≡ true
 or_true true = refl
 or_true false = refl
 
-pub clash_sector : (p q : Spare) (ps : List Spare) → q.sector ≡ p.sector → clash p (q ∷ ps) ≡ true
-clash_sector p q ps e =
-    ap (λ b. (b || member p.sector (sectors_of ps)) || member p.spare (spares_of (q ∷ ps))) (eq-eqb p.sector q.sector (sym e))
+or_across : (a b c d : Bool) → ((a || b) || (c || d)) ≡ ((a || c) || (b || d))
+or_across true b c d = refl
+or_across false true true d = refl
+or_across false true false d = refl
+or_across false false c d = refl
 
-pub clash_spare : (p q : Spare) (ps : List Spare) → q.spare ≡ p.spare → clash p (q ∷ ps) ≡ true
-clash_spare p q ps e =
-    ap (λ b. member p.sector (sectors_of (q ∷ ps)) || (b || member p.spare (spares_of ps))) (eq-eqb p.spare q.spare (sym e))
-    ∙ or_true (member p.sector (sectors_of (q ∷ ps)))
-
-pub clash_on : (p q : Spare) (ps : List Spare) → (q.sector ≢ p.sector) → (q.spare ≢ p.spare) → clash p (q ∷ ps) ≡ clash p ps
-clash_on p q ps n m =
-    ap (λ b. (b || member p.sector (sectors_of ps)) || member p.spare (spares_of (q ∷ ps))) (ne_eqb p.sector q.sector (λ e. n (sym e)))
-    ∙ ap (λ b. member p.sector (sectors_of ps) || (b || member p.spare (spares_of ps))) (ne_eqb p.spare q.spare (λ e. m (sym e)))
-
--- against those from i on, which is how the code hands them over
-pub clash_rest : (p : Spare) (ps : List Spare) (i : ℕ) (r b : Bool) → r ≡ clash p (take (length ps - i) (drop i ps)) → r ≡ b → clash p (drop i ps) ≡ b
-clash_rest p ps i r b h k = ap (clash p) (sym (take_rest ps i)) ∙ (sym h ∙ k)
+pub clash_any : (p : Spare) (ps : List Spare) → list_any (λ q. p.sector == q.sector || p.spare == q.spare) ps ≡ clash p ps
+clash_any p [] = refl
+clash_any p (q ∷ ps) =
+    ap (λ b. (p.sector == q.sector || p.spare == q.spare) || b) (clash_any p ps)
+    ∙ or_across (p.sector == q.sector) (p.spare == q.spare) (member p.sector (sectors_of ps)) (member p.spare (spares_of ps))
 
 -- pairs that fit one another ---------------------------------------------------------------------------------------
 
@@ -54,95 +63,11 @@ abbrev pub agreeing : ℕ → List Spare → Bool
 agreeing v ps =
     distinct (sectors_of ps) && all (λ s. ltb s v) (sectors_of ps) && distinct (spares_of ps) && all (λ s. leb v s) (spares_of ps)
 
-pub fit_agreeing : (v : ℕ) (ps : List Spare) → length ps ≤ most_listed → pairs_fit v ps ≡ agreeing v ps
-fit_agreeing v ps h =
-    ap (λ b. b && distinct (sectors_of ps) && all (λ s. ltb s v) (sectors_of ps) && distinct (spares_of ps) && all (λ s. leb v s) (spares_of ps))
-    (le-leb (length ps) most_listed h)
-
--- the test of a list by its first pair and the others: the pair's four facts, and the four of the others
-abbrev first_and : (m l n g d a e b : Bool) → Bool
-first_and m l n g d a e b = (not m && d) && (l && a) && (not n && e) && (g && b)
-
-and_false : (x : Bool) → (x && false) ≡ false
-and_false true = refl
-and_false false = refl
-
-first_clashes : (m l n g d a e b : Bool) → (m || n) ≡ true → first_and m l n g d a e b ≡ false
-first_clashes true l n g d a e b h = refl
-first_clashes false l true g d a e b h = ap (λ x. x && (g && b)) (and_false (d && (l && a)))
-first_clashes false l false g d a e b h = absurd (both_ways false refl h)
-
-first_late : (m l n g d a e b : Bool) → l ≡ false → first_and m l n g d a e b ≡ false
-first_late m l n g d a e b h = ap (λ x. (not m && d) && (x && a) && (not n && e) && (g && b)) h ∙ ap (λ x. x && (not n && e) && (g && b)) (and_false (not m && d))
-
-first_early : (m l n g d a e b : Bool) → g ≡ false → first_and m l n g d a e b ≡ false
-first_early m l n g d a e b h = ap (λ x. (not m && d) && (l && a) && (not n && e) && (x && b)) h ∙ and_false ((not m && d) && (l && a) && (not n && e))
-
-first_passes : (m l n g d a e b : Bool) → (m || n) ≡ false → l ≡ true → g ≡ true → first_and m l n g d a e b ≡ (d && a && e && b)
-first_passes true l n g d a e b h p q = absurd (both_ways true h refl)
-first_passes false l true g d a e b h p q = absurd (both_ways true h refl)
-first_passes false l false g d a e b h p q =
-    ap (λ x. d && (x && a) && e && (g && b)) p ∙ ap (λ x. d && a && e && (x && b)) q
-
-module _ (v : ℕ) (p : Spare) (ps : List Spare) where
-  abbrev sector_met : Bool
-  sector_met = member p.sector (sectors_of ps)
-
-  abbrev spare_met : Bool
-  spare_met = member p.spare (spares_of ps)
-
-  abbrev sectors_differ : Bool
-  sectors_differ = distinct (sectors_of ps)
-
-  abbrev sectors_under : Bool
-  sectors_under = all (λ s. ltb s v) (sectors_of ps)
-
-  abbrev spares_differ : Bool
-  spares_differ = distinct (spares_of ps)
-
-  abbrev spares_past : Bool
-  spares_past = all (λ s. leb v s) (spares_of ps)
-
-  pub clashes_first : clash p ps ≡ true → agreeing v (p ∷ ps) ≡ false
-  clashes_first h = first_clashes sector_met (nat_lt p.sector v) spare_met (nat_le v p.spare) sectors_differ sectors_under spares_differ spares_past h
-
-  pub sector_past : v ≤ p.sector → agreeing v (p ∷ ps) ≡ false
-  sector_past h = first_late sector_met (nat_lt p.sector v) spare_met (nat_le v p.spare) sectors_differ sectors_under spares_differ spares_past (le-ltb p.sector v h)
-
-  pub spare_under : p.spare < v → agreeing v (p ∷ ps) ≡ false
-  spare_under h = first_early sector_met (nat_lt p.sector v) spare_met (nat_le v p.spare) sectors_differ sectors_under spares_differ spares_past (lt-leb v p.spare h)
-
-  pub passes_first : clash p ps ≡ false → p.sector < v → v ≤ p.spare → agreeing v (p ∷ ps) ≡ agreeing v ps
-  passes_first h k j = first_passes sector_met (nat_lt p.sector v) spare_met (nat_le v p.spare) sectors_differ sectors_under spares_differ spares_past h (lt-ltb p.sector v k) (le-leb v p.spare j)
-
 -- the store below --------------------------------------------------------------------------------------------------
 
-and_true : (x : Bool) → (x && true) ≡ x
-and_true true = refl
-and_true false = refl
-
-and_and : (x y z : Bool) → (x && (y && z)) ≡ ((x && y) && z)
-and_and true y z = refl
-and_and false y z = refl
-
-leb_max : (v s n : ℕ) → nat_le (max v (s + 1)) n ≡ (nat_le v n && nat_lt s n)
-leb_max v s n = go (cases_lt n v) (cases_lt s n)
-  where
-    go : (n < v) ⊎ (v ≤ n) → (s < n) ⊎ (n ≤ s) → nat_le (max v (s + 1)) n ≡ (nat_le v n && nat_lt s n)
-    go (inl x) y = lt-leb (max v (s + 1)) n (omega arith) ∙ ap (λ q. q && nat_lt s n) (sym (lt-leb v n x))
-    go (inr x) (inl y) = le-leb (max v (s + 1)) n (omega arith) ∙ (sym (lt-ltb s n y) ∙ ap (λ q. q && nat_lt s n) (sym (le-leb v n x)))
-    go (inr x) (inr y) = lt-leb (max v (s + 1)) n (omega arith) ∙ (sym (le-ltb s n y) ∙ ap (λ q. q && nat_lt s n) (sym (le-leb v n x)))
-
--- the fewest sectors below that have v sectors and the spares
-abbrev pub least_below : ℕ → List ℕ → ℕ
-least_below v [] = v
-least_below v (s ∷ ss) = least_below (max v (s + 1)) ss
-
-least_fits : (v : ℕ) (ss : List ℕ) (n : ℕ) → (nat_le v n && all (λ s. ltb s n) ss) ≡ nat_le (least_below v ss) n
-least_fits v [] n = and_true (nat_le v n)
-least_fits v (s ∷ ss) n =
-    and_and (nat_le v n) (nat_lt s n) (all (λ s. ltb s n) ss)
-    ∙ (ap (λ q. q && all (λ s. ltb s n) ss) (sym (leb_max v s n)) ∙ least_fits (max v (s + 1)) ss n)
+pub all_spares : (f : ℕ → Bool) (ps : List Spare) → list_all (λ p. f p.spare) ps ≡ all f (spares_of ps)
+all_spares f [] = refl
+all_spares f (p ∷ ps) = ap (λ b. f p.spare && b) (all_spares f ps)
 
 -- visible sectors and pairs as the layer keeps them
 module _ (v : ℕ) (ps : List Spare) where
@@ -152,11 +77,12 @@ module _ (v : ℕ) (ps : List Spare) where
   abbrev pub fits : ℕ → Bool
   fits n = pairs_fit v ps && nat_le v n && all (λ s. ltb s n) (spares_of ps)
 
-  pub enough_least : (least : ℕ) → true ≡ pairs_fit v ps → least ≡ least_below v (spares_of ps) → (n : ℕ) → nat_le least n ≡ fits n
-  enough_least least h e n =
-      ap (λ k. leb k n) e
-      ∙ (sym (least_fits v (spares_of ps) n)
-      ∙ ap (λ q. q && nat_le v n && all (λ s. ltb s n) (spares_of ps)) h)
+  pub suits : (n : ℕ) (r : Bool) → pairs_fit v ps ≡ true → v ≤ n → r ≡ list_all (λ p. nat_lt p.spare n) ps → r ≡ fits n
+  suits n r h k e =
+      e
+      ∙ (all_spares (λ s. ltb s n) ps
+      ∙ sym (ap (λ q. q && nat_le v n && all (λ s. ltb s n) (spares_of ps)) h
+      ∙ ap (λ q. q && all (λ s. ltb s n) (spares_of ps)) (le-leb v n k)))
 
 -- no two visible sectors are served by one -------------------------------------------------------------------------
 

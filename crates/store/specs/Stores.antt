@@ -93,6 +93,10 @@ short_image buffer = laid (short_fits buffer) (from_to 0 short_size (short_secto
 abbrev pub layered : Image → ℕ → (ℕ → ℕ) → Image
 layered below c serve = from_to 0 c (λ s. risen (slice_index_or below (serve s) (dead 0 0)))
 
+-- the layer has them where a store of so many sectors below fits it
+abbrev pub placed : (ℕ → Bool) → ℕ → (ℕ → ℕ) → Image → Image
+placed fits c serve below = laid (fits (length below)) (layered below c serve)
+
 -- window: sector s is sector a + s below, and there are c of them -------------------------------------------------
 
 abbrev pub window_fits : Image → ℕ → ℕ → Bool

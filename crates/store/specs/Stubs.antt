@@ -4,7 +4,7 @@ use Rattle.std.proofs.Common.{sym, ap, ◌∙◌, arith}
 use Rattle.std.proofs.lemmas.Bool.{ltb-true, ltb-false, eqb-true, eq-eqb, ne_eqb}
 use Rattle.model.specs.declared.types.Fault.{Fault}
 use Rattle.model.specs.Sizes.{sector_size, most_sectors}
-use Rattle.model.specs.Image.{Image, Sector, bytes, dead, from_to, whole, whole_sector, past_end_at, dead_at, seen, look, done_or_fault, access, bytes_or, filled, stored, put}
+use Rattle.model.specs.Image.{Image, Sector, bytes, dead, from_to, whole, whole_sector, past_end_at, dead_at, seen, done_or_fault, access, filled, put}
 use Rattle.store.specs.Tabled.{look_table, look_past_table, whole_table, put_table, access_at, filled_at}
 
 -- the count of sectors, the live one with its bytes, and the depth of the others
@@ -12,7 +12,7 @@ module _ (n v : ℕ) (b : List ℕ) (d : ℕ) where
   abbrev at : ℕ → Sector
   at k = cond (k == v) (bytes b) (dead k d)
 
-  abbrev image : Image
+  abbrev pub image : Image
   image = from_to 0 n at
 
   pub stub_whole : n ≤ most_sectors → length b ≡ sector_size → whole image ≡ true
@@ -40,25 +40,9 @@ module _ (n v : ℕ) (b : List ℕ) (d : ℕ) where
     pub stub_access : {r : Result (Unit {0}) Fault} → r ≡ checked (nat_lt s n) (s == v) → r ≡ access image s
     stub_access e = e ∙ is_access
 
-    -- a refused access leaves the buffer and the image
-    module _ (f : Fault) (e : Err f ≡ checked (nat_lt s n) (s == v)) where
-      pub unfilled : (old : List ℕ) → old ≡ filled image s old
-      unfilled old = go (look image s) (e ∙ is_access)
-        where
-          go : (r : Result (List ℕ) Fault) → Err f ≡ done_or_fault r → old ≡ bytes_or r old
-          go (Ok x) q = let z : ◌≡◌ {A = ℕ} 0 1 = cc in absurd (omega arith)
-          go (Err x) q = refl
-
-      pub unchanged : (new : List ℕ) → image ≡ put image s new
-      unchanged new = go (look image s) (e ∙ is_access)
-        where
-          go : (r : Result (List ℕ) Fault) → Err f ≡ done_or_fault r → image ≡ stored r image s new
-          go (Ok x) q = let z : ◌≡◌ {A = ℕ} 0 1 = cc in absurd (omega arith)
-          go (Err x) q = refl
-
-    module _ (e : Ok tt ≡ checked (nat_lt s n) (s == v)) where
+    module _ (e : access image s ≡ Ok tt) where
       passed : (s < n) × (s ≡ v)
-      passed = go (nat_lt s n) refl (s == v) refl e
+      passed = go (nat_lt s n) refl (s == v) refl (sym e ∙ sym is_access)
         where
           go : (x : Bool) → nat_lt s n ≡ x → (y : Bool) → (s == v) ≡ y → Ok tt ≡ checked x y → (s < n) × (s ≡ v)
           go true p true q r = (ltb-true s n p, eqb-true s v q)

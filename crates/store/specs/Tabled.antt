@@ -40,10 +40,6 @@ length_table n f = from_length 0 n f
 pub get_or_table : {A : Type 0} (n : ℕ) (f : ℕ → A) (s : ℕ) (d : A) → s < n → slice_index_or (from_to 0 n f) s d ≡ f s
 get_or_table n f s d l = from_get_or 0 n f s s d l (omega arith)
 
--- two functions that agree below n have one table
-pub same_table : {A : Type 0} (n : ℕ) (f g : ℕ → A) → ((s : ℕ) → s < n → f s ≡ g s) → from_to 0 n f ≡ from_to 0 n g
-same_table n f g h = from_same 0 n f g (λ s l m. h s (omega arith))
-
 -- g is x at s, and f elsewhere
 pub set_table : {A : Type 0} (n : ℕ) (f g : ℕ → A) (s : ℕ) (x : A) → s < n → g s ≡ x → ((t : ℕ) → t < n → (t ≢ s) → g t ≡ f t) → slice_set (from_to 0 n f) s x ≡ from_to 0 n g
 set_table n f g s x l p q = from_set 0 n f g s s x (omega arith) l p (λ t m o z. q t (omega arith) z)

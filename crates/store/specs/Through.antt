@@ -1,5 +1,5 @@
 -- What a layer computes on the way to the store below.
-use Rattle.std.specs.Prelude.{◌≡◌, ℕ, ◌+◌, min, Bool, false, List, Some, None, Ok, Err, Option, Result, nat_le}
+use Rattle.std.specs.Prelude.{◌≡◌, ℕ, ◌+◌, min, List, Ok, Err, Result}
 use Rattle.model.specs.Sizes.{deepest}
 use Rattle.model.specs.Image.{Image, access, filled, put}
 use Rattle.model.specs.declared.types.Fault.{Fault}
@@ -26,8 +26,3 @@ pub record Ends (i : Image) (s : ℕ) (f : Fault) : Type 0 where
 abbrev pub Led : (Image → Image) → Image → ℕ → Result ℕ Fault → Type 0
 Led layer below s (Ok p) = Leads layer below s p
 Led layer below s (Err f) = Ends (layer below) s f
-
--- n sectors below are as many as are needed; where the need is unknown, no number is
-abbrev pub enough : ℕ → Option ℕ → Bool
-enough n None = false
-enough n (Some least) = nat_le least n

@@ -1,27 +1,23 @@
-// The two faults of a store, as it meets them.
+// What a store answers where it refuses: a fault, as it meets it, or that something does not fit.
 ghost use Rattle.std.specs.Prelude.{◌≡◌};
-ghost use Rattle.model.specs.Image.{past_end_at, dead_at};
+ghost use Rattle.store.specs.Stores.{fit_answer};
 
-use model::types::{Cause, Fault};
+use model::types::{Cause, Fault, Refusal};
 
-// No sector has this number.
-pub(crate) fn past_end(sector: u16) -> Fault
-    ensures { result ≡ past_end_at sector }
+// The fault of a store with no layer above.
+pub(crate) fn here(cause: Cause, sector: u16) -> Fault
+    ensures { result ≡ record { cause = cause; place = sector; depth = 0 } }
 {
     Fault {
-        cause: Cause::PastEnd,
+        cause,
         place: sector,
         depth: 0,
     }
 }
 
-// A dead sector of a bottom store, with no layer above.
-pub(crate) fn dead_here(sector: u16) -> Fault
-    ensures { result ≡ dead_at sector 0 }
+// The answer to the question whether something fits.
+pub(crate) fn fit(fits: bool) -> Result<(), Refusal>
+    ensures { result ≡ fit_answer fits }
 {
-    Fault {
-        cause: Cause::Dead,
-        place: sector,
-        depth: 0,
-    }
+    fits.then_some(()).ok_or(Refusal::Misfit)
 }

@@ -1,10 +1,10 @@
 // The three bottom stores: what fits, and what the first, the last, a dead and a missing sector answer.
-use crate::faults::{dead_here, past_end};
+use crate::faults::here;
 use crate::flat::Flat;
 use crate::pair::Pair;
 use crate::short::Short;
 use crate::{SECTOR, Store};
-use model::types::Fault;
+use model::types::{Cause, Fault};
 use std::process::Abort;
 use std::test::Fail;
 
@@ -87,10 +87,10 @@ fn flat_serves(rt: HostRuntime) -> Result<(), Fail> {
     let mut flat = Flat::lay(vec![in rt.alloc(); 0u8; 4 * SECTOR]?, dead);
     let cases = [
         (0, 5, None),
-        (1, 6, Some(dead_here(1))),
+        (1, 6, Some(here(Cause::Dead, 1))),
         (3, 7, None),
-        (4, 8, Some(past_end(4))),
-        (9, 8, Some(past_end(9))),
+        (4, 8, Some(here(Cause::PastEnd, 4))),
+        (9, 8, Some(here(Cause::PastEnd, 9))),
     ];
     for (sector, byte, fault) in cases {
         go_through(&rt, &mut flat, sector, byte, fault);
@@ -110,7 +110,7 @@ fn pair_serves(rt: HostRuntime) -> Result<(), Fail> {
         (0, 5, None),
         (1, 6, None),
         (3, 7, None),
-        (4, 8, Some(past_end(4))),
+        (4, 8, Some(here(Cause::PastEnd, 4))),
     ] {
         go_through(&rt, &mut pair, sector, byte, fault);
     }
@@ -128,11 +128,11 @@ fn short_serves(rt: HostRuntime) -> Result<(), Fail> {
     let cases = [
         (0x00, 5, None),
         (0x3F, 6, None),
-        (0x40, 7, Some(dead_here(0x40))),
-        (0xFF, 7, Some(dead_here(0xFF))),
+        (0x40, 7, Some(here(Cause::Dead, 0x40))),
+        (0xFF, 7, Some(here(Cause::Dead, 0xFF))),
         (0x100, 8, None),
         (0x103, 9, None),
-        (0x104, 7, Some(past_end(0x104))),
+        (0x104, 7, Some(here(Cause::PastEnd, 0x104))),
     ];
     for (sector, byte, fault) in cases {
         go_through(&rt, &mut short, sector, byte, fault);
@@ -156,10 +156,10 @@ fn short_serves(rt: HostRuntime) -> Result<(), Fail> {
 #[test]
 fn misfits_serve_nothing(rt: HostRuntime) -> Result<(), Fail> {
     let mut flat = Flat::lay(vec![in rt.alloc(); 0u8; 513]?, Vec::new(rt.alloc()));
-    go_through(&rt, &mut flat, 0, 5, Some(past_end(0)));
+    go_through(&rt, &mut flat, 0, 5, Some(here(Cause::PastEnd, 0)));
     let mut pair = Pair::lay(vec![in rt.alloc(); 0u8; 512]?, Vec::new(rt.alloc()));
-    go_through(&rt, &mut pair, 0, 5, Some(past_end(0)));
+    go_through(&rt, &mut pair, 0, 5, Some(here(Cause::PastEnd, 0)));
     let mut short = Short::lay(vec![in rt.alloc(); 0u8; 512]?);
-    go_through(&rt, &mut short, 0, 5, Some(past_end(0)));
+    go_through(&rt, &mut short, 0, 5, Some(here(Cause::PastEnd, 0)));
     Ok(())
 }

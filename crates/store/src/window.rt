@@ -1,91 +1,58 @@
 // A window: a stretch of the store below, as a store of its own.
 ghost use Rattle.std.specs.Prelude.{◌≡◌};
 ghost use Rattle.store.specs.Stores.{fit_answer, window_fits, window_image};
-ghost use Rattle.store.specs.Through.{Led};
-ghost use Rattle.store.specs.Layers.{window_over};
-ghost use Rattle.store.specs.Layered.{layer_whole};
 ghost use Rattle.store.specs.Windows as windows;
 
-use crate::faults::past_end;
-use crate::layer::risen;
-use crate::{SECTOR, Store};
-use model::types::{Fault, Refusal};
+use crate::Store;
+use crate::faults::fit;
+use crate::layer::{Layer, Placing};
+use model::types::Refusal;
 
 // The sectors of the store below from `first` on, `count` of them.
 #[derive(Drop)]
-pub struct Window<S> {
-    below: S,
+pub struct Stretch {
     first: u16,
     count: u16,
 }
+
+pub type Window<S> = Layer<S, Stretch>;
 
 impl<S: Store> Window<S> {
     // Whether the store below has every sector of the window.
     pub fn fits(below: &S, first: u16, count: u16) -> Result<(), Refusal>
         ensures { result ≡ fit_answer (window_fits (S.image below.now) first count) }
     {
-        if u32::from(first) + u32::from(count) <= u32::from(below.size()) {
-            Ok(())
-        } else {
-            Err(Refusal::Misfit)
-        }
+        fit(Stretch { first, count }.fits(below.size()))
     }
 
     // Takes the store below. A window that does not fit has no sector.
     pub fn lay(below: S, first: u16, count: u16) -> Window<S>
         ensures below { result.below ≡ below }
-        ensures image { window_over S.image result ≡ window_image (S.image below) first count }
+        ensures image { ⟦<Window<S> as Store>⟧.image result ≡ window_image (S.image below) first count }
     {
-        Window {
-            below,
-            first,
-            count,
-        }
-    }
-
-    // Hands the store below back.
-    pub fn into_below(self) -> S
-        ensures below { result ≡ self.below }
-        ensures image { window_over S.image self ≡ window_image (S.image result) self.first self.count }
-    {
-        let Window { below, .. } = self;
-        below
-    }
-
-    // The sector below that a sector of the window is.
-    fn place(&self, sector: u16) -> Result<u16, Fault>
-        ensures { Led (λ below. window_image below self.now.first self.now.count) (S.image self.now.below) sector result }
-    {
-        if sector < self.size() {
-            Ok(self.first + sector)
-        } else {
-            Err(past_end(sector))
-        }
+        Layer::over(below, Stretch { first, count })
     }
 }
 
-impl<S: Store> Store for Window<S> {
-    ghost image = { window_over S.image };
+impl Placing for Stretch {
+    ghost fits = { λ w. windows.fits w.first w.count };
 
-    ghost wholeness = { λ w.
-        let a = w.first in
-        let n = w.count in
-        layer_whole (windows.fits a n) n (windows.serve a n) (windows.sound a n) (S.image w.below) (S.wholeness w.below) };
+    ghost count = { λ w. w.count };
 
-    fn size(&self) -> u16 {
-        match Window::fits(&self.below, self.first, self.count) {
-            Ok(()) => self.count,
-            Err(_) => 0,
-        }
+    ghost serve = { λ w. windows.serve w.first w.count };
+
+    ghost sound = { λ w. windows.sound w.first w.count };
+
+    fn fits(&self, below: u16) -> bool {
+        u32::from(self.first) + u32::from(self.count) <= u32::from(below)
     }
 
-    fn read(&mut self, sector: u16, buffer: &mut [u8; SECTOR]) -> Result<(), Fault> {
-        let place = self.place(sector)?;
-        risen(self.below.read(place, buffer))
+    fn count(&self) -> u16 {
+        self.count
     }
 
-    fn write(&mut self, sector: u16, bytes: &[u8; SECTOR]) -> Result<(), Fault> {
-        let place = self.place(sector)?;
-        risen(self.below.write(place, bytes))
+    // (The sum is past 65,535 only where the window does not fit.)
+    fn place(&self, sector: u16) -> u16 {
+        self.first.saturating_add(sector)
     }
 }

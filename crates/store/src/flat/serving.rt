@@ -6,19 +6,16 @@ ghost use Rattle.store.specs.Stores.{fit_answer, flat_fits, flat_image};
 ghost use Rattle.store.specs.Flats.{flat_whole};
 
 use super::Flat;
-use crate::{MOST_LISTED, MOST_SECTORS, SECTOR, Store, faults, stretch};
-use model::types::{Fault, Refusal};
+use crate::faults::{fit, here};
+use crate::{MOST_LISTED, MOST_SECTORS, SECTOR, Store, stretch};
+use model::types::{Cause, Fault, Refusal};
 
 impl Flat {
     // The question put first: whole sectors, 65,535 at most, and at most eight dead numbers.
     pub fn fits(buffer: &[u8], dead: &[u16]) -> Result<(), Refusal>
         ensures { result ≡ fit_answer (flat_fits buffer.now dead.now) }
     {
-        if stretch::whole(buffer, MOST_SECTORS) && dead.len() <= MOST_LISTED {
-            Ok(())
-        } else {
-            Err(Refusal::Misfit)
-        }
+        fit(stretch::whole(buffer, MOST_SECTORS) && dead.len() <= MOST_LISTED)
     }
 
     // Takes the buffer as a store. What does not fit is a store with no sector.
@@ -47,10 +44,7 @@ impl Flat {
     fn count(buffer: &[u8], dead: &[u16]) -> u16
         ensures { result ≡ length (flat_image buffer.now dead.now) }
     {
-        match Flat::fits(buffer, dead) {
-            Ok(()) => (buffer.len() / SECTOR) as u16,
-            Err(_) => 0,
-        }
+        Flat::fits(buffer, dead).map_or(0, |()| (buffer.len() / SECTOR) as u16)
     }
 
     // What a read and a write of the sector answer.
@@ -58,9 +52,9 @@ impl Flat {
         ensures { result ≡ access (flat_of self.now) sector }
     {
         if sector >= self.size() {
-            Err(faults::past_end(sector))
+            Err(here(Cause::PastEnd, sector))
         } else if self.dead.contains(&sector) {
-            Err(faults::dead_here(sector))
+            Err(here(Cause::Dead, sector))
         } else {
             Ok(())
         }

@@ -5,6 +5,7 @@ use crate::spares::{Spare, Spares};
 use crate::window::Window;
 use crate::{SECTOR, Store};
 use model::types::{Cause, Fault};
+use std::array;
 use std::test::Fail;
 use stub::Stub;
 
@@ -96,10 +97,7 @@ fn spares_fit(rt: HostRuntime) {
 
 #[test]
 fn spares_are_few(rt: HostRuntime) {
-    let mut pairs = [pair(0, 9); 9];
-    for (i, p) in pairs.iter_mut().enumerate() {
-        *p = pair(i as u16, i as u16 + 9);
-    }
+    let pairs: [Spare; 9] = array::from_fn(|i| pair(i as u16, i as u16 + 9));
     let below = filled(18, 0);
     assert_eq!(rt; Spares::fits(&below, 9, &pairs[0..8]).is_ok(), true);
     assert_eq!(rt; Spares::fits(&below, 9, &pairs).is_ok(), false);

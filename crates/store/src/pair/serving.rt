@@ -6,8 +6,9 @@ ghost use Rattle.store.specs.Stores.{fit_answer, pair_fits, pair_image};
 ghost use Rattle.store.specs.Pairs.{pair_whole};
 
 use super::Pair;
-use crate::{SECTOR, Store, faults, stretch};
-use model::types::{Fault, Refusal};
+use crate::faults::{fit, here};
+use crate::{SECTOR, Store, stretch};
+use model::types::{Cause, Fault, Refusal};
 
 // The most sectors of each of the two buffers.
 const MOST_OF_PAIR: usize = 32_767;
@@ -17,11 +18,7 @@ impl Pair {
     pub fn fits(even: &[u8], odd: &[u8]) -> Result<(), Refusal>
         ensures { result ≡ fit_answer (pair_fits even.now odd.now) }
     {
-        if even.len() == odd.len() && stretch::whole(even, MOST_OF_PAIR) {
-            Ok(())
-        } else {
-            Err(Refusal::Misfit)
-        }
+        fit(even.len() == odd.len() && stretch::whole(even, MOST_OF_PAIR))
     }
 
     // Takes the two buffers as a store. What does not fit is a store with no sector.
@@ -46,10 +43,7 @@ impl Pair {
     fn count(even: &[u8], odd: &[u8]) -> u16
         ensures { result ≡ length (pair_image even.now odd.now) }
     {
-        match Pair::fits(even, odd) {
-            Ok(()) => (2 * (even.len() / SECTOR)) as u16,
-            Err(_) => 0,
-        }
+        Pair::fits(even, odd).map_or(0, |()| (2 * (even.len() / SECTOR)) as u16)
     }
 
     // What a read and a write of the sector answer.
@@ -57,7 +51,7 @@ impl Pair {
         ensures { result ≡ access (pair_of self.now) sector }
     {
         if sector >= self.size() {
-            Err(faults::past_end(sector))
+            Err(here(Cause::PastEnd, sector))
         } else {
             Ok(())
         }

@@ -6,8 +6,9 @@ ghost use Rattle.store.specs.Stores.{fit_answer, short_fits, short_image, short_
 ghost use Rattle.store.specs.Shorts.{short_whole};
 
 use super::Short;
-use crate::{SECTOR, Store, faults, stretch};
-use model::types::{Fault, Refusal};
+use crate::faults::{fit, here};
+use crate::{SECTOR, Store, stretch};
+use model::types::{Cause, Fault, Refusal};
 
 // The sectors below LOW are live, and those from TABLES on.
 const LOW: u16 = 0x40;
@@ -24,11 +25,7 @@ impl Short {
     pub fn fits(buffer: &[u8]) -> Result<(), Refusal>
         ensures { result ≡ fit_answer (short_fits buffer.now) }
     {
-        if buffer.len() == BYTES {
-            Ok(())
-        } else {
-            Err(Refusal::Misfit)
-        }
+        fit(buffer.len() == BYTES)
     }
 
     // Takes the buffer as a store. What does not fit is a store with no sector.
@@ -53,10 +50,7 @@ impl Short {
     fn count(buffer: &[u8]) -> u16
         ensures { result ≡ length (short_image buffer.now) }
     {
-        match Short::fits(buffer) {
-            Ok(()) => SECTORS,
-            Err(_) => 0,
-        }
+        Short::fits(buffer).map_or(0, |()| SECTORS)
     }
 
     // What a read and a write of the sector answer.
@@ -64,11 +58,11 @@ impl Short {
         ensures { result ≡ access (short_of self.now) sector }
     {
         if sector >= self.size() {
-            Err(faults::past_end(sector))
+            Err(here(Cause::PastEnd, sector))
         } else if lives(sector) {
             Ok(())
         } else {
-            Err(faults::dead_here(sector))
+            Err(here(Cause::Dead, sector))
         }
     }
 

@@ -1,10 +1,10 @@
 // A store that is dead almost everywhere, so that a fault tells which sector of it was asked.
-ghost use Rattle.std.specs.Prelude.{◌≡◌, ◌≤◌, length, if◌then◌else◌, Ok, Err, nat_eq, nat_lt};
+ghost use Rattle.std.specs.Prelude.{◌≡◌, ◌≤◌, length};
 ghost use Rattle.model.specs.Sizes.{sector_size, most_sectors};
-ghost use Rattle.model.specs.Image.{bytes as live_sector, dead as dead_sector, past_end_at, dead_at, from_to};
-ghost use Rattle.store.specs.Stubs.{stub_whole};
+ghost use Rattle.model.specs.Image.{access};
+ghost use Rattle.store.specs.Stubs as stubs;
 
-use crate::faults::past_end;
+use crate::faults::here;
 use crate::{SECTOR, Store};
 use model::types::{Cause, Fault};
 
@@ -21,10 +21,10 @@ pub struct Stub {
 
 impl Stub {
     fn check(&self, sector: u16) -> Result<(), Fault>
-        ensures { result ≡ (if nat_lt sector self.now.sectors then (if nat_eq sector self.now.live then Ok tt else Err (dead_at sector self.now.depth)) else Err (past_end_at sector)) }
+        ensures { result ≡ access (stubs.image self.now.sectors self.now.live self.now.contents self.now.depth) sector }
     {
         if sector >= self.sectors {
-            Err(past_end(sector))
+            Err(here(Cause::PastEnd, sector))
         } else if sector == self.live {
             Ok(())
         } else {
@@ -38,31 +38,23 @@ impl Stub {
 }
 
 impl Store for Stub {
-    ghost image = { λ s. from_to 0 s.sectors (λ k. (if nat_eq k s.live then live_sector s.contents else dead_sector k s.depth)) };
+    ghost image = { λ s. stubs.image s.sectors s.live s.contents s.depth };
 
-    ghost wholeness = { λ s. stub_whole s.sectors s.live s.contents s.depth s.few s.long };
+    ghost wholeness = { λ s. stubs.stub_whole s.sectors s.live s.contents s.depth s.few s.long };
 
     fn size(&self) -> u16 {
         self.sectors
     }
 
     fn read(&mut self, sector: u16, buffer: &mut [u8; SECTOR]) -> Result<(), Fault> {
-        match self.check(sector) {
-            Ok(()) => {
-                *buffer = self.contents;
-                Ok(())
-            }
-            Err(fault) => Err(fault),
-        }
+        self.check(sector)?;
+        *buffer = self.contents;
+        Ok(())
     }
 
     fn write(&mut self, sector: u16, bytes: &[u8; SECTOR]) -> Result<(), Fault> {
-        match self.check(sector) {
-            Ok(()) => {
-                self.contents = *bytes;
-                Ok(())
-            }
-            Err(fault) => Err(fault),
-        }
+        self.check(sector)?;
+        self.contents = *bytes;
+        Ok(())
     }
 }

@@ -17,7 +17,7 @@ pub returns-then-contains : goal.returns-then-contains
 returns-then-contains c =
     let s = c.args.self.now in
     let here = (goal.at.returns-then-contains c).After-contains in
-    ap Err c.dead_here.ensures ∙ sym (flat_dead (vec_items s.buffer) (vec_items s.dead) c.args.sector (inside here) (listed here ∙ c.if-contains.true))
+    ap Err c.here-then-contains.ensures ∙ sym (flat_dead (vec_items s.buffer) (vec_items s.dead) c.args.sector (inside here) (listed here ∙ c.if-contains.true))
 
 pub returns-else-contains : goal.returns-else-contains
 returns-else-contains c =

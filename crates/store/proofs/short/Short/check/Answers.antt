@@ -8,4 +8,4 @@ returns-then-lives c =
 
 pub returns-else-lives : goal.returns-else-lives
 returns-else-lives c =
-    ap Err c.dead_here.ensures ∙ sym (short_dead (vec_items c.args.self.now.buffer) c.args.sector (subst (λ n. c.args.sector < n) c.size.ensures c.if-sector-size.false) (sym c.lives.ensures ∙ c.if-lives.false))
+    ap Err c.here-else-lives.ensures ∙ sym (short_dead (vec_items c.args.self.now.buffer) c.args.sector (subst (λ n. c.args.sector < n) c.size.ensures c.if-sector-size.false) (sym c.lives.ensures ∙ c.if-lives.false))
