@@ -1,6 +1,9 @@
 -- A path cut at each slash: where the first one stands, the last name, a path within another.
-use Rattle.std.proofs.Common.{◌≡◌, ℕ, suc, ◌+◌, ◌-◌, ◌<◌, ◌≤◌, Bool, true, false, cond, ◌&&◌, eqb, List, [], ◌∷◌, ◌++◌, length, get_or, take, drop, Some, None, Option, sym, refl, ap, ◌∙◌, subst, ap₂, arith}
-use Rattle.std.proofs.lemmas.List.{drop_all, drop_more, take-append-drop, take_rest}
+use Rattle.std.proofs.Common.{◌≡◌, ℕ, suc, ◌+◌, ◌-◌, ◌<◌, Bool, true, false, cond, ◌&&◌, eqb, List, [], ◌∷◌, ◌++◌, length, get_or, take, drop, Some, None, Option, sym, refl, ap, ◌∙◌, subst, ap₂, arith}
+use Rattle.std.proofs.lemmas.List.{get_or-append-add, length-append}
+use Rattle.std.proofs.Math.Seq.{get_or-append_seam}
+use Rattle.std.specs.Bool.{MatchBool}
+use Rattle.std.specs.List.{IsAfterLastMatch}
 use Rattle.std.proofs.lemmas.Bool.{cond-false, eq-eqb, eqb-true, eqb-false, ne_eqb}
 use Rattle.model.specs.Book.{last}
 use Rattle.model.specs.Names.{Name, Path, cut, names, onto, same_name, within}
@@ -23,7 +26,7 @@ cut_parts (b ∷ bs) = go (is_slash b) (cut_parts bs)
 
 -- at the first slash ---------------------------------------------------------------------------------
 
-not_none : {A : Type 0} (a : A) → ◌≡◌ {A = Option A} (Some a) None → ⊥
+pub not_none : {A : Type 0} (a : A) → ◌≡◌ {A = Option A} (Some a) None → ⊥
 not_none a e = let z : ◌≡◌ {A = ℕ} 0 1 = cc in omega arith
 
 pub cut_at : (p : List ℕ) (k : ℕ) → Some k ≡ first is_slash p → cut p ≡ take k p ∷ cut (drop (k + 1) p)
@@ -74,36 +77,21 @@ last-names (b ∷ bs) = refl
 last-slash : (p q : List ℕ) → cut q ≡ q ∷ [] → last (names (p ++ 0x2f ∷ q)) ≡ q
 last-slash p q e = last-names (p ++ 0x2f ∷ q) ∙ ap last (cut_join p q ∙ ap (λ ns. cut p ++ ns) e) ∙ last-append (cut p) q []
 
--- the bytes from i on are one name
-abbrev pub OneName : List ℕ → ℕ → Type 0
-OneName p i = cut (drop i p) ≡ drop i p ∷ []
+-- where no byte is a slash, all is one name
+one_name : (bs : List ℕ) → ((k : ℕ) → k < length bs → is_slash (get_or bs k 0) ≡ false) → cut bs ≡ bs ∷ []
+one_name [] h = refl
+one_name (b ∷ bs) h = cut_byte b bs (eqb-false b 0x2f (h 0 (omega arith))) (one_name bs (λ k l. h (suc k) (omega arith)))
 
--- the laws that a loop from the end brings along in its invariant
-pub record Lasts (p : List ℕ) : Type 0 where
-  pub start : OneName p (length p)
-  pub more : (i : ℕ) → 0 < i → i ≤ length p → OneName p i → (get_or p (i - 1) 0 ≡ 0x2f → ⊥) → OneName p (i - 1)
-  pub here : (i : ℕ) → 0 < i → i ≤ length p → OneName p i → get_or p (i - 1) 0 ≡ 0x2f → take (length p - (i - 1 + 1)) (drop (i - 1 + 1) p) ≡ last (names p)
-  pub over : (i : ℕ) → i ≡ 0 → OneName p i → p ≡ last (names p)
-
-pub lasts : (p : List ℕ) → Lasts p
-lasts p =
-    record {
-      start = let none = drop_all (length p) p (omega arith) in ap cut none ∙ ap (λ bs. bs ∷ []) (sym none);
-      more = λ i z l s h. ap cut (byte i z l) ∙ cut_byte (get_or p (i - 1) 0) (drop i p) h s ∙ ap (λ bs. bs ∷ []) (sym (byte i z l));
-      here =
-          λ i z l s h.
-          ap (λ k. take (length p - k) (drop k p)) (back i z)
-          ∙ take_rest p i
-          ∙ sym (last-slash (take (i - 1) p) (drop i p) s)
-          ∙ ap (λ bs. last (names bs)) (sym (sym (take-append-drop (i - 1) p) ∙ ap (λ bs. take (i - 1) p ++ bs) (byte i z l ∙ ap (λ b. b ∷ drop i p) h)));
-      over = λ i z s. sym (last-names p ∙ ap last (ap (λ k. cut (drop k p)) (sym z) ∙ s ∙ ap (λ k. drop k p ∷ []) z));
-    }
-  where
-    back : (i : ℕ) → 0 < i → i - 1 + 1 ≡ i
-    back i z = omega arith
-
-    byte : (i : ℕ) → 0 < i → i ≤ length p → drop (i - 1) p ≡ get_or p (i - 1) 0 ∷ drop i p
-    byte i z l = drop_more p (i - 1) 0 (omega arith) ∙ ap (λ k. get_or p (i - 1) 0 ∷ drop k p) (back i z)
+-- what `rsplit` gives first: all, where it is done, and else what follows the last slash
+pub last_is : (p front x : List ℕ) (done : Bool) → MatchBool done (p ≡ x) ((y : ℕ) × (p ≡ front ++ y ∷ x)) → IsAfterLastMatch is_slash p (length p - length x) → x ≡ last (names p)
+last_is p front x true e h = let n : length p ≡ length x = ap length e in sym e ∙ sym (last-names p ∙ ap last (one_name p (λ k l. h.0 k 0 (omega arith) l)))
+last_is p front x false e h =
+    let long : length p ≡ length front + suc (length x) = ap length e.1 ∙ length-append front (e.0 ∷ x) in
+    let i : length p - length x - 1 ≡ length front = omega arith in
+    let byte : e.0 ≡ 0x2f = sym (ap (λ k. get_or p k 0) i ∙ ap (λ bs. get_or bs (length front) 0) e.1 ∙ get_or-append_seam front e.0 x 0) ∙ eqb-true (get_or p (length p - length x - 1) 0) 0x2f (h.1 (omega arith) 0) in
+    let rest : (k : ℕ) → k < length x → is_slash (get_or x k 0) ≡ false =
+    λ k l. ap is_slash (sym (ap (λ bs. get_or bs (length front + suc k) 0) e.1 ∙ get_or-append-add front (e.0 ∷ x) (suc k) 0)) ∙ h.0 (length front + suc k) 0 (omega arith) (omega arith) in
+    sym (last-slash front x (one_name x rest)) ∙ ap (λ b. last (names (front ++ b ∷ x))) (sym byte) ∙ ap (λ bs. last (names bs)) (sym e.1)
 
 -- a path within another ------------------------------------------------------------------------------
 

@@ -1,24 +1,8 @@
--- Loops over a list: whether all pass, and the first that passes. An invariant brings these laws along, so that the
--- search closes each turn and each exit.
-use Rattle.std.proofs.Common.{◌≡◌, ℕ, suc, ◌+◌, ◌<◌, ◌≤◌, Bool, true, false, cond, ◌&&◌, List, [], ◌∷◌, map, length, get_or, drop, Some, None, Option, sym, refl, ap, ◌∙◌, ap₂, arith}
+-- A loop to the first of a list that passes. Its invariant brings these laws along, so that the search closes each turn and
+-- each exit.
+use Rattle.std.proofs.Common.{◌≡◌, ℕ, suc, ◌+◌, ◌<◌, ◌≤◌, Bool, true, false, cond, List, [], ◌∷◌, map, length, get_or, drop, Some, None, Option, sym, refl, ap, ◌∙◌, ap₂, arith}
 use Rattle.std.proofs.lemmas.List.{at_drop_more, at_drop_all}
-use Rattle.model.specs.Image.{all}
 use Rattle.model.specs.Tree.{first, raised}
-
--- whether all pass ---------------------------------------------------------------------------------
-
-pub record Alls {A : Type 0} (f : A → Bool) (xs : List A) : Type 0 where
-  pub more : (i : ℕ) (d : A) → i < length xs → f (get_or xs i d) ≡ true → all f (drop i xs) ≡ all f (drop (i + 1) xs)
-  pub fails : (i : ℕ) (d : A) → i < length xs → f (get_or xs i d) ≡ false → all f (drop i xs) ≡ false
-  pub over : (i : ℕ) → length xs ≤ i → all f (drop i xs) ≡ true
-
-pub alls : {A : Type 0} (f : A → Bool) (xs : List A) → Alls f xs
-alls f xs =
-    record {
-      more = λ i d l h. at_drop_more (all f) xs i d l ∙ ap (λ b. b && all f (drop (i + 1) xs)) h;
-      fails = λ i d l h. at_drop_more (all f) xs i d l ∙ ap (λ b. b && all f (drop (i + 1) xs)) h;
-      over = λ i l. at_drop_all (all f) xs i l;
-    }
 
 -- the place of the first that passes ------------------------------------------------------------------
 
