@@ -8,7 +8,7 @@ use Rattle.model.proofs.Common.Searches.{first_some}
 use Rattle.tables.specs.Views.{marks_view, view}
 use Rattle.tables.specs.declared.types.Mark.{Mark}
 use Rattle.tables.specs.declared.types.Tables.{Tables}
-use Rattle.tables.proofs.Steps.{first-map}
+use Rattle.tables.proofs.Positions.{first-map}
 use Rattle.tables.specs.Writing.{enough, lowest_row, spare}
 
 -- one search --------------------------------------------------------------------------------------------------

@@ -23,7 +23,6 @@ pub mod Prunes
 pub mod Scans
 pub mod Seeks
 pub mod Shapes
-pub mod Steps
 pub mod Subtrees
 pub mod Told
 pub mod Verdict

@@ -1,5 +1,5 @@
 -- What std's searches and tests of a list find, in the words of the model.
-use Rattle.std.proofs.Common.{◌≡◌, ℕ, suc, ◌+◌, ◌<◌, ◌≤◌, Bool, true, false, cond, not, ◌&&◌, eqb, ltb, List, [], ◌∷◌, length, take, Some, None, Option, sym, refl, ap, ◌∙◌, ◌⊎◌, inl, inr, arith}
+use Rattle.std.proofs.Common.{◌≡◌, ℕ, suc, ◌+◌, ◌<◌, ◌≤◌, Bool, true, false, cond, not, ◌&&◌, eqb, ltb, List, [], ◌∷◌, map, length, take, Some, None, Option, sym, refl, ap, ap₂, ◌∙◌, ◌⊎◌, inl, inr, arith}
 use Rattle.std.proofs.lemmas.Bool.{cases_lt, lt-ltb, le-ltb}
 use Rattle.std.proofs.lemmas.List.Sums.{prefix_len-le-length}
 use Rattle.std.specs.Option.{unwrap_or}
@@ -30,6 +30,14 @@ first_is {A} f (x ∷ xs) = go (f x) (position_or_len f xs) (first_is f xs)
         → cond (ltb (cond (not b) (1 + n) 0) (suc (length xs))) (Some (cond (not b) (1 + n) 0)) None ≡ cond b (Some 0) (raised (first f xs))
     go true n e = ap (λ t. cond t (Some 0) None) (lt-ltb 0 (suc (length xs)) (omega arith))
     go false n e = next_place n (length xs) ∙ ap raised e
+
+pub first-map : {A B : Type 0} (f : B → Bool) (g : A → B) (xs : List A) → first f (map g xs) ≡ first (λ x. f (g x)) xs
+first-map f g [] = refl
+first-map f g (x ∷ xs) = ap (λ o. cond (f (g x)) (Some 0) (raised o)) (first-map f g xs)
+
+pub first_never : {A : Type 0} (f : A → Bool) (xs : List A) → ((x : A) → f x ≡ false) → first f xs ≡ None
+first_never f [] h = refl
+first_never f (x ∷ xs) h = ap₂ (λ b o. cond b (Some 0) (raised o)) (h x) (first_never f xs h)
 
 -- up to the first 0x00 --------------------------------------------------------------------------------
 

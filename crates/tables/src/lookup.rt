@@ -1,23 +1,15 @@
 // Finding items in the tables by their paths.
 ghost use Rattle.std.specs.Prelude.{◌≡◌, ◌<◌, length, IfSome, Some, None, MatchOption};
 ghost use Rattle.model.specs.Book.{last};
-ghost use Rattle.model.specs.Names.{names, same_name};
+ghost use Rattle.model.specs.Names.{names};
 ghost use Rattle.model.specs.Tables.{live_dir};
 ghost use Rattle.model.specs.Volume.{child as child_of, holder as holder_of, item_in, named, starts};
 ghost use Rattle.tables.specs.Views.{entries_view, view};
 
-use crate::names::padded;
 use crate::paths::slash;
 use crate::sizes::{ENTRIES, NAME, ROOT};
 use crate::types::{Entry, Tables};
 use model::types::Kind;
-
-// Whether an entry's name is these fifteen bytes.
-fn is_named(entry: &Entry, wanted: &[u8; NAME]) -> bool
-    ensures { result ≡ same_name entry.now.name wanted.now }
-{
-    entry.name == *wanted
-}
 
 // The number of the entry with this parent and this name.
 pub fn child(entries: &[Entry; ENTRIES], parent: u8, name: &[u8]) -> Option<u8>
@@ -27,24 +19,18 @@ pub fn child(entries: &[Entry; ENTRIES], parent: u8, name: &[u8]) -> Option<u8>
     if name.len() > NAME {
         return None;
     }
-    let wanted = padded(name);
-    for (i, entry) in entries.iter().enumerate() {
-        if entry.parent == parent && is_named(entry, &wanted) {
-            return Some(i as u8);
-        }
-    }
-    None
+    let wanted = Entry::new(parent, name);
+    entries
+        .iter()
+        .position(|entry| *entry == wanted)
+        .map(|i| i as u8)
 }
 
 impl Tables {
     pub fn is_live_dir(&self, dir: u8) -> bool
         ensures { result ≡ live_dir (view self.now).dirs dir }
     {
-        let i = dir as usize;
-        if i >= ENTRIES {
-            return false;
-        }
-        self.dirs[i].is_live()
+        self.dirs.get(dir as usize).is_some_and(Entry::is_live)
     }
 
     // The root, or a live directory.
@@ -71,8 +57,7 @@ impl Tables {
     pub fn holder(&self, start: u8, path: &[u8]) -> Option<u8>
         ensures { result ≡ holder_of (view self.now) start (names path.now) }
     {
-        let (dir, _) = self.place(start, path)?;
-        Some(dir)
+        self.place(start, path).map(|(dir, _)| dir)
     }
 
     // The item of a name in a directory.
@@ -80,11 +65,9 @@ impl Tables {
         ensures value { result ≡ item_in (view self.now) (Some dir) name.now }
         ensures bound { IfSome result (λ x. x.1 < 32) }
     {
-        if let Some(number) = child(&self.dirs, dir, name) {
-            return Some((Kind::Directory, number));
-        }
-        let number = child(&self.files, dir, name)?;
-        Some((Kind::File, number))
+        child(&self.dirs, dir, name)
+            .map(|number| (Kind::Directory, number))
+            .or_else(|| child(&self.files, dir, name).map(|number| (Kind::File, number)))
     }
 
     // The item that a path names from a start; the empty path names the start itself.

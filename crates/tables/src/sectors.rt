@@ -43,9 +43,6 @@ impl Consistent {
         if !is_whole(data) {
             return Err(Refusal::Size);
         }
-        match lowest_free(&self.tables, data.len() / SECTOR) {
-            Some(row) => Ok(row),
-            None => Err(Refusal::Sectors),
-        }
+        lowest_free(&self.tables, data.len() / SECTOR).ok_or(Refusal::Sectors)
     }
 }
