@@ -6,8 +6,7 @@ ghost use Rattle.model.specs.Tables.{live_dir};
 ghost use Rattle.model.specs.Volume.{child as child_of, holder as holder_of, item_in, named, starts};
 ghost use Rattle.tables.specs.Views.{entries_view, view};
 
-use crate::paths::slash;
-use crate::sizes::{ENTRIES, NAME, ROOT};
+use crate::sizes::{ENTRIES, NAME, ROOT, SLASH};
 use crate::types::{Entry, Tables};
 use model::types::Kind;
 
@@ -41,16 +40,16 @@ impl Tables {
     }
 
     // The directory that is to hold the last name of a path, and that name.
+    // Start and path stay two parameters, here and in each call: POSIX's `*at` calls take them apart, and `rename` has one
+    // start with two paths.
     pub fn place<'a>(&self, start: u8, path: &'a [u8]) -> Option<(u8, &'a [u8])>
         ensures { MatchOption result (holder_of (view self.now) start (names path.now) ≡ None) (λ x. (holder_of (view self.now) start (names path.now) ≡ Some x.0) × (x.1.now ≡ last (names path.now))) }
     {
-        let mut dir = start;
-        let mut rest = path;
-        while let Some(at) = slash(rest) {
-            dir = child(&self.dirs, dir, &rest[0..at])?;
-            rest = &rest[at + 1..];
-        }
-        Some((dir, rest))
+        let mut names = path.split(|&b| b == SLASH);
+        let name = names.next_back()?;
+        names
+            .try_fold(start, |dir, name| child(&self.dirs, dir, name))
+            .map(|dir| (dir, name))
     }
 
     // The directory that is to hold the last name of a path.

@@ -1,16 +1,12 @@
-use Rattle.std.proofs.Common.{◌≡◌, ℕ, cond, List, [], ◌∷◌, rules, refl, ap, ◌∙◌}
+use Rattle.std.proofs.Common.{◌≡◌, ℕ, List, [], ◌∷◌, rules, refl, ap, ◌∙◌}
 use Rattle.std.specs.List.{slice_split}
 use Rattle.std.proofs.lemmas.Iterator.Splits.{YieldsList-from_slice_split}
 use Rattle.std.proofs.lemmas.Iterator.Search.{all_from_yields_List}
 use borrow.Author.Tests.{tests}
-use Rattle.model.specs.Names.{all_names, cut, onto, proper_name, spelt}
-use Rattle.tables.proofs.Cuts.{is_slash}
+use Rattle.model.specs.Names.{all_names, cut, proper_name, spelt}
+use Rattle.tables.proofs.Cuts.{is_slash, split_is}
 use Rattle.tables.proofs.Positions.{all_is}
 use Rattle.tables.proofs.paths.is_spelt.Goals as goal
-
-split_is : (bs : List ℕ) → slice_split is_slash bs ≡ cut bs
-split_is [] = refl
-split_is (b ∷ bs) = ap (λ ns. cond (is_slash b) ([] ∷ ns) (onto b ns)) (split_is bs)
 
 -- the empty path has one name by `cut`, and that one is empty
 whole : (bs : List ℕ) → all_names (cut bs) ≡ spelt bs

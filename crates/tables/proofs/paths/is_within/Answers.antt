@@ -1,4 +1,4 @@
-use Rattle.std.proofs.Common.{◌≡◌, ℕ, Bool, false, List, [], ◌∷◌, ◌++◌, length, Some, None, Option, Bor, sym, ap, ◌∙◌, rules}
+use Rattle.std.proofs.Common.{◌≡◌, ℕ, Bool, false, List, [], ◌∷◌, ◌++◌, length, Some, None, Option, Bor, sym, ap, ◌∙◌, arith, rules}
 use Rattle.std.specs.Option.{MatchOption, option_copied}
 use Rattle.std.specs.List.{slice_get}
 use Rattle.std.specs.Prelude.{IsTrue}
@@ -6,9 +6,12 @@ use Rattle.std.proofs.lemmas.Slice.Eq.{strip_prefix_is}
 use Rattle.std.proofs.lemmas.Bool.{eqb-false}
 use Rattle.std.proofs.lemmas.Bool.Decides.{Decides-eqb}
 use Rattle.model.specs.Names.{names, within}
-use Rattle.tables.proofs.Cuts.{is_slash, ends-name, not_none, within_strip, within-not}
+use Rattle.tables.proofs.Cuts.{is_slash, ends-name, within_strip, within-not}
 use Rattle.tables.proofs.paths.is_within.Goals as goal
 use borrow.Author.Tests.{tests}
+
+not_none : {A : Type 0} (a : A) → ◌≡◌ {A = Option A} (Some a) None → ⊥
+not_none a e = let z : ◌≡◌ {A = ℕ} 0 1 = cc in omega arith
 
 -- the first byte of what is left decides, if there is one
 ends_first : (bs : List ℕ) (o : Option (Bor ℕ)) (r : Bool) → option_copied o ≡ slice_get bs 0 → MatchOption o (IsTrue r) (λ y. r ≡ is_slash y.now) → r ≡ ends-name bs
