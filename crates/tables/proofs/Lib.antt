@@ -20,6 +20,7 @@ pub mod Marking
 pub mod Pieces
 pub mod Positions
 pub mod Prunes
+pub mod Roads
 pub mod Scans
 pub mod Seeks
 pub mod Shapes
