@@ -11,7 +11,7 @@ use crate::types::Entry;
 pub fn is_proper_byte(b: u8) -> bool
     ensures { result ≡ proper_byte b }
 {
-    b >= 0x21 && b <= 0x7e && b != SLASH
+    (0x21..=0x7e).contains(&b) && b != SLASH
 }
 
 // 1 to 15 proper bytes.

@@ -16,7 +16,7 @@ fn is_whole(data: &[u8]) -> bool
     ensures { result ≡ whole_sectors «data».now }
 {
     let size = data.len();
-    size % SECTOR == 0 && size >= SECTOR && size <= PLACES * SECTOR
+    size % SECTOR == 0 && (SECTOR..=PLACES * SECTOR).contains(&size)
 }
 
 // A row of the lowest free data sectors, rising, if there are so many. Each search begins behind the sector that was found

@@ -4,12 +4,9 @@ use Rattle.model.specs.Volume.{checks}
 use Rattle.model.specs.declared.types.Kind.{Kind}
 use Rattle.model.specs.declared.types.Refusal.TheVariants.{Lost as lost}
 use Rattle.tables.specs.Views.{view, entry_view}
-use Rattle.tables.proofs.Changed.{still_sound, move_misspelt, move_refused, move_lost, move_placeless, move-inside, move-passed, move-after}
+use Rattle.tables.proofs.Changed.{still_sound, move_refused, move_lost, move_placeless, move-inside, move-passed, move-after}
 use Rattle.tables.proofs.Choosing.{err_none, handed_on, ok_some}
 use Rattle.tables.proofs.consistent.Consistent.rename.Goals as goal
-
-pub returns-then-not-is_spelt : goal.returns-then-not-is_spelt
-returns-then-not-is_spelt c = λ i. move_misspelt (view c.args.self.now.tables) i c.args.start c.args.from.now c.args.to.now (sym c.if-not-is_spelt.ensures)
 
 pub returns-in_err-check_start : goal.returns-in_err-check_start
 returns-in_err-check_start c =
