@@ -18,12 +18,12 @@ pub mod Items
 pub mod Listings
 pub mod Marking
 pub mod Pieces
+pub mod Positions
 pub mod Prunes
+pub mod Roads
 pub mod Scans
 pub mod Seeks
 pub mod Shapes
-pub mod Spellings
-pub mod Steps
 pub mod Subtrees
 pub mod Told
 pub mod Verdict
