@@ -18,6 +18,7 @@ pub mod Items
 pub mod Listings
 pub mod Marking
 pub mod Pieces
+pub mod Positions
 pub mod Prunes
 pub mod Scans
 pub mod Seeks
@@ -27,3 +28,4 @@ pub mod Steps
 pub mod Subtrees
 pub mod Told
 pub mod Verdict
+pub mod Wholes

@@ -25,12 +25,10 @@ impl Row {
     pub fn count(&self) -> usize
         ensures { result ≡ length (used self.now.places) }
     {
-        for i in 0..PLACES {
-            if self.places[i] == 0 {
-                return i;
-            }
-        }
-        PLACES
+        self.places
+            .iter()
+            .position(|&place| place == 0)
+            .unwrap_or(PLACES)
     }
 }
 
