@@ -20,7 +20,6 @@ pub mod Marking
 pub mod Pieces
 pub mod Positions
 pub mod Prunes
-pub mod Scans
 pub mod Seeks
 pub mod Shapes
 pub mod Spellings

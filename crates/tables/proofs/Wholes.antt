@@ -1,6 +1,6 @@
 -- What the library's `all` and `any` answer, in the words of the model.
-use Rattle.std.proofs.Common.{◌≡◌, ℕ, zero, suc, ◌+◌, Bool, true, false, not, ◌&&◌, ◌||◌, List, [], ◌∷◌, map, refl, ap, ◌∙◌, ap₂, arith}
-use Rattle.std.specs.List.{list_all, list_any, range_with_len}
+use Rattle.std.proofs.Common.{◌≡◌, ℕ, zero, suc, ◌+◌, ◌<◌, Bool, true, false, not, ◌&&◌, ◌||◌, List, [], ◌∷◌, map, length, get_or, refl, ap, ◌∙◌, subst, ap₂, arith}
+use Rattle.std.specs.List.{list_all, list_any, enumerate_from, range_with_len}
 use Rattle.model.specs.Tables.{all, each}
 
 not_either : (a b : Bool) → not (a || b) ≡ (not a && not b)
@@ -21,3 +21,13 @@ module _ {A B : Type 0} (v : A → B) (f : B → Bool) (p : A → Bool) where
 pub each_number : (f : ℕ → Bool) (a n : ℕ) → list_all f (range_with_len a n) ≡ each a n f
 each_number f a zero = refl
 each_number f a (suc n) = let e : a + 1 ≡ suc a = omega arith in ap (λ b. f a && b) (ap (λ k. list_all f (range_with_len k n)) e ∙ each_number f (suc a) n)
+
+-- over a list with its numbers from a on: g tells of a number what f tells of it and its element
+numbered : {X : Type 0} (d : X) (f : ℕ → X → Bool) (g : ℕ → Bool) (a : ℕ) (xs : List X) → ((k j : ℕ) → k < length xs → j ≡ a + k → f j (get_or xs k d) ≡ g j) → list_all (λ (p : ℕ × X). f p.0 p.1) (enumerate_from a xs) ≡ each a (length xs) g
+numbered d f g a [] h = refl
+numbered {X} d f g a (x ∷ xs) h =
+    let next : a + 1 ≡ suc a = omega arith in
+    ap₂ (λ b c. b && c) (h 0 a (omega arith) (omega arith)) (ap (λ k. list_all (λ (p : ℕ × X). f p.0 p.1) (enumerate_from k xs)) next ∙ numbered d f g (suc a) xs (λ k j l e. h (suc k) j (omega arith) (omega arith)))
+
+pub each_place : {X : Type 0} (d : X) (f : ℕ → X → Bool) (g : ℕ → Bool) (xs : List X) → ((k : ℕ) → k < length xs → f k (get_or xs k d) ≡ g k) → list_all (λ (p : ℕ × X). f p.0 p.1) (enumerate_from 0 xs) ≡ each 0 (length xs) g
+each_place d f g xs h = numbered d f g 0 xs (λ k j l e. let same : k ≡ j = omega arith in subst (λ n. f n (get_or xs k d) ≡ g n) same (h k l))

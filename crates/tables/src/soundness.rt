@@ -46,10 +46,8 @@ impl Tables {
     pub fn is_sound(&self, dead: &[bool; 256]) -> bool
         ensures { result ≡ sound_by (λ s. not (slice_index_or dead.now s true)) (view self.now) }
     {
-        let Some(claimed) = self.claimed(dead) else {
-            return false;
-        };
-        self.marks_are_right(dead, &claimed) && self.entries_are_sound()
+        self.claims(dead).is_some_and(|claims| self.marks_are_due(&claims)
+            && self.entries_are_sound())
     }
 
     // Names and parents, apart from the files' sectors.
@@ -76,6 +74,7 @@ impl Tables {
     }
 
     // The parents lead from `dir` to the root; more steps than there are directories go in a ring.
+    // The `for` counts steps, no index. `(0..ENTRIES).try_fold(dir, ..)` would pass off the arrival as a failure.
     fn climbs(&self, dir: u8) -> bool
         ensures { result ≡ climbs (view self.now).dirs entry_count dir }
     {
