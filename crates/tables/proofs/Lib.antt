@@ -2,6 +2,7 @@ pub mod Admission
 pub mod Apart
 pub mod Blanks
 pub mod Bools
+pub mod Bytes
 pub mod Changed
 pub mod Changing
 pub mod Choosing
@@ -17,7 +18,6 @@ pub mod Hunts
 pub mod Items
 pub mod Listings
 pub mod Marking
-pub mod Pieces
 pub mod Positions
 pub mod Prunes
 pub mod Seeks

@@ -1,10 +1,11 @@
 // An entry as its sixteen bytes: one for the parent, then fifteen for the name.
-ghost use Rattle.std.specs.Prelude.{◌≡◌, ◌≤◌, not, length, take};
+ghost use Rattle.std.specs.Prelude.{◌≡◌, ◌≤◌, not, ◌∷◌, length, take};
 ghost use Rattle.model.specs.Names.{padded as padded_name};
 ghost use Rattle.model.specs.Tables.{entry, entries, entries_bytes, live};
 ghost use Rattle.tables.specs.Views.{entry_view, entries_view};
 
 use crate::names::padded;
+use crate::pieces::{cut, joined};
 use crate::sizes::{ENTRIES, ENTRY, NAME, SECTOR};
 use crate::slots::Slot;
 use crate::types::Entry;
@@ -25,11 +26,10 @@ impl Entry {
     }
 
     // The entry that sixteen bytes hold.
-    pub(crate) fn decode(bytes: &[u8]) -> Entry
-        requires { length bytes.now ≡ 16 }
-        ensures { entry_view result ≡ entry bytes.now }
+    pub(crate) fn decode(bytes: [u8; ENTRY]) -> Entry
+        ensures { entry_view result ≡ entry bytes }
     {
-        let [parent, rest @ ..] = bytes else {
+        let [parent, rest @ ..] = bytes.as_slice() else {
             return Entry::FREE;
         };
         let mut name = [0; NAME];
@@ -38,6 +38,16 @@ impl Entry {
             parent: *parent,
             name,
         }
+    }
+
+    // Its sixteen bytes.
+    pub(crate) fn encode(self) -> [u8; ENTRY]
+        ensures { result ≡ self.parent ∷ self.name }
+    {
+        let mut bytes = [0; ENTRY];
+        bytes[0] = self.parent;
+        bytes[1..].copy_from_slice(&self.name);
+        bytes
     }
 
     pub fn is_live(&self) -> bool
@@ -59,23 +69,12 @@ impl Slot for Entry {
 pub fn decode(sector: &[u8; SECTOR]) -> [Entry; ENTRIES]
     ensures { entries_view result ≡ entries sector.now }
 {
-    let mut all = [Entry::FREE; ENTRIES];
-    for (i, entry) in all.iter_mut().enumerate() {
-        let at = ENTRY * i;
-        *entry = Entry::decode(&sector[at..at + ENTRY]);
-    }
-    all
+    cut(sector).map(Entry::decode)
 }
 
 // The sector that holds the entries.
 pub fn encode(all: &[Entry; ENTRIES]) -> [u8; SECTOR]
     ensures { result ≡ entries_bytes (entries_view all.now) }
 {
-    let mut sector = [0; SECTOR];
-    for (i, entry) in all.iter().enumerate() {
-        let at = ENTRY * i;
-        sector[at] = entry.parent;
-        sector[at + 1..at + ENTRY].copy_from_slice(&entry.name);
-    }
-    sector
+    joined(&all.map(Entry::encode))
 }

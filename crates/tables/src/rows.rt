@@ -3,6 +3,7 @@ ghost use Rattle.std.specs.Prelude.{◌≡◌, length};
 ghost use Rattle.model.specs.Tables.{parts, rows_bytes, used};
 ghost use Rattle.tables.specs.Views.{rows_view};
 
+use crate::pieces::{cut, joined};
 use crate::sizes::{ENTRIES, PLACES, SECTOR};
 use crate::types::Row;
 
@@ -12,13 +13,17 @@ impl Row {
     };
 
     // The row that sixteen bytes hold.
-    pub(crate) fn decode(bytes: &[u8]) -> Row
-        requires { length bytes.now ≡ 16 }
-        ensures { result.places ≡ bytes.now }
+    fn decode(places: [u8; PLACES]) -> Row
+        ensures { result.places ≡ places }
     {
-        let mut places = [0; PLACES];
-        places.copy_from_slice(bytes);
         Row { places }
+    }
+
+    // Its sixteen bytes.
+    fn encode(self) -> [u8; PLACES]
+        ensures { result ≡ self.places }
+    {
+        self.places
     }
 
     // How many places are used: those before the first 0x00.
@@ -36,22 +41,12 @@ impl Row {
 pub fn decode(sector: &[u8; SECTOR]) -> [Row; ENTRIES]
     ensures { rows_view result ≡ parts 32 sector.now }
 {
-    let mut all = [Row::EMPTY; ENTRIES];
-    for (i, row) in all.iter_mut().enumerate() {
-        let at = PLACES * i;
-        *row = Row::decode(&sector[at..at + PLACES]);
-    }
-    all
+    cut(sector).map(Row::decode)
 }
 
 // The sector that holds the rows.
 pub fn encode(all: &[Row; ENTRIES]) -> [u8; SECTOR]
     ensures { result ≡ rows_bytes (rows_view all.now) }
 {
-    let mut sector = [0; SECTOR];
-    for (i, row) in all.iter().enumerate() {
-        let at = PLACES * i;
-        sector[at..at + PLACES].copy_from_slice(&row.places);
-    }
-    sector
+    joined(&all.map(Row::encode))
 }
