@@ -25,31 +25,6 @@ impl Entry {
         Entry { parent, name }
     }
 
-    // The entry that sixteen bytes hold.
-    pub(crate) fn decode(bytes: [u8; ENTRY]) -> Entry
-        ensures { entry_view result ≡ entry bytes }
-    {
-        let [parent, rest @ ..] = bytes.as_slice() else {
-            return Entry::FREE;
-        };
-        let mut name = [0; NAME];
-        name.copy_from_slice(rest);
-        Entry {
-            parent: *parent,
-            name,
-        }
-    }
-
-    // Its sixteen bytes.
-    pub(crate) fn encode(self) -> [u8; ENTRY]
-        ensures { result ≡ self.parent ∷ self.name }
-    {
-        let mut bytes = [0; ENTRY];
-        bytes[0] = self.parent;
-        bytes[1..].copy_from_slice(&self.name);
-        bytes
-    }
-
     pub fn is_live(&self) -> bool
         ensures { result ≡ live (entry_view self.now) }
     {
@@ -65,16 +40,45 @@ impl Slot for Entry {
     }
 }
 
+// The entry that sixteen bytes hold.
+impl From<[u8; ENTRY]> for Entry {
+    ghost from_gives = { λ bytes e. entry_view e ≡ entry bytes };
+
+    fn from(bytes: [u8; ENTRY]) -> Entry {
+        let [parent, rest @ ..] = bytes.as_slice() else {
+            return Entry::FREE;
+        };
+        let mut name = [0; NAME];
+        name.copy_from_slice(rest);
+        Entry {
+            parent: *parent,
+            name,
+        }
+    }
+}
+
+// An entry's sixteen bytes.
+impl From<Entry> for [u8; ENTRY] {
+    ghost from_gives = { λ e bytes. bytes ≡ e.parent ∷ e.name };
+
+    fn from(entry: Entry) -> [u8; ENTRY] {
+        let mut bytes = [0; ENTRY];
+        bytes[0] = entry.parent;
+        bytes[1..].copy_from_slice(&entry.name);
+        bytes
+    }
+}
+
 // The entries that a sector holds.
 pub fn decode(sector: &[u8; SECTOR]) -> [Entry; ENTRIES]
     ensures { entries_view result ≡ entries sector.now }
 {
-    cut(sector).map(Entry::decode)
+    cut(sector).map(Entry::from)
 }
 
 // The sector that holds the entries.
 pub fn encode(all: &[Entry; ENTRIES]) -> [u8; SECTOR]
     ensures { result ≡ entries_bytes (entries_view all.now) }
 {
-    joined(&all.map(Entry::encode))
+    joined(&all.map(<[u8; ENTRY]>::from))
 }

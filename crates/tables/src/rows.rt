@@ -12,20 +12,6 @@ impl Row {
         places: [0; PLACES],
     };
 
-    // The row that sixteen bytes hold.
-    fn decode(places: [u8; PLACES]) -> Row
-        ensures { result.places ≡ places }
-    {
-        Row { places }
-    }
-
-    // Its sixteen bytes.
-    fn encode(self) -> [u8; PLACES]
-        ensures { result ≡ self.places }
-    {
-        self.places
-    }
-
     // How many places are used: those before the first 0x00.
     pub fn count(&self) -> usize
         ensures { result ≡ length (used self.now.places) }
@@ -37,16 +23,34 @@ impl Row {
     }
 }
 
+// The row that sixteen bytes hold.
+impl From<[u8; PLACES]> for Row {
+    ghost from_gives = { λ places r. r.places ≡ places };
+
+    fn from(places: [u8; PLACES]) -> Row {
+        Row { places }
+    }
+}
+
+// A row's sixteen bytes.
+impl From<Row> for [u8; PLACES] {
+    ghost from_gives = { λ r places. places ≡ r.places };
+
+    fn from(row: Row) -> [u8; PLACES] {
+        row.places
+    }
+}
+
 // The rows that a sector holds.
 pub fn decode(sector: &[u8; SECTOR]) -> [Row; ENTRIES]
     ensures { rows_view result ≡ parts 32 sector.now }
 {
-    cut(sector).map(Row::decode)
+    cut(sector).map(Row::from)
 }
 
 // The sector that holds the rows.
 pub fn encode(all: &[Row; ENTRIES]) -> [u8; SECTOR]
     ensures { result ≡ rows_bytes (rows_view all.now) }
 {
-    joined(&all.map(Row::encode))
+    joined(&all.map(<[u8; PLACES]>::from))
 }
