@@ -29,15 +29,6 @@ module _ {A : Type 0} (f : A → Bool) where
   all_join [] ys = refl
   all_join (x ∷ xs) ys = ap (λ b. f x && b) (all_join xs ys) ∙ sym (and_assoc (f x) (all f xs) (all f ys))
 
-  pub both_pass : (xs ys : List A) → true ≡ all f xs → true ≡ all f ys → true ≡ all f (xs ++ ys)
-  both_pass xs ys p q = q ∙ ap (λ b. b && all f ys) p ∙ sym (all_join xs ys)
-
-  pub first_fails : (xs ys : List A) → false ≡ all f xs → false ≡ all f (xs ++ ys)
-  first_fails xs ys p = ap (λ b. b && all f ys) p ∙ sym (all_join xs ys)
-
-  pub second_fails : (xs ys : List A) → true ≡ all f xs → false ≡ all f ys → false ≡ all f (xs ++ ys)
-  second_fails xs ys p q = q ∙ ap (λ b. b && all f ys) p ∙ sym (all_join xs ys)
-
 pub all_weaker : {A : Type 0} (f g : A → Bool) → ((x : A) → f x ≡ true → g x ≡ true) → (xs : List A) → all f xs ≡ true → all g xs ≡ true
 all_weaker f g h [] e = refl
 all_weaker f g h (x ∷ xs) e = let p = and_parts (f x) (all f xs) e in ap₂ (λ a b. a && b) (h x p.0) (all_weaker f g h xs p.1)

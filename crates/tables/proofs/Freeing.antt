@@ -1,9 +1,9 @@
 -- Files in marked directories, and the marked directories, set free one after another.
-use Rattle.std.proofs.Common.{◌≡◌, ℕ, suc, ◌+◌, ◌<◌, Bool, true, false, cond, ◌&&◌, List, [], ◌∷◌, ◌++◌, map, length, get_or, take, drop, set, sym, refl, ap, ◌∙◌, ap₂, arith}
+use Rattle.std.proofs.Common.{◌≡◌, ℕ, suc, ◌+◌, ◌<◌, ◌≤◌, Bool, true, false, cond, ◌&&◌, List, [], ◌∷◌, ◌++◌, map, length, get_or, take, drop, set, sym, refl, ap, ◌∙◌, ap₂, arith}
 use Rattle.std.proofs.lemmas.List.{append_assoc, append-nil, drop_all, drop_more, get_or_at, get_or-map, length-map, length-take-le, map_more, set_at, take_all, take_more}
 use Rattle.model.specs.Tables.{Tables as Model, Entry as ModelEntry, no_entry, live, used}
 use Rattle.model.specs.Volume.{first_bytes, freed, marked, unlinked}
-use Rattle.tables.specs.Views.{entry_view, entries_view, marks_view, rows_view, view}
+use Rattle.tables.specs.Views.{entry_view, entries_view, view}
 use Rattle.tables.specs.declared.types.Entry.{Entry}
 use Rattle.tables.specs.declared.types.Row.{Row}
 use Rattle.tables.specs.declared.types.Tables.{Tables}
@@ -69,18 +69,18 @@ module _ (ms : List Bool) (t : Model) (i : ℕ) (in_files : i < length t.files) 
   unfolding files-done
   done_on = ap₂ (with-files t) marks_on files_on
 
-  done-step : files-done ms t (i + 1) ≡ cond (goes_in ms (get_or (files-done ms t i).files i no_entry)) (unlinked (files-done ms t i) i) (files-done ms t i)
+  done-step : files-done ms t (i + 1) ≡ cond (goes_in ms e) (unlinked (files-done ms t i) i) (files-done ms t i)
   unfolding files-done
-  done-step = done_on ∙ go (goes_in ms e) ∙ ap (λ x. cond (goes_in ms x) (unlinked (files-done ms t i) i) (files-done ms t i)) (sym at_here)
+  done-step = done_on ∙ go (goes_in ms e)
     where
       go : (b : Bool) → with-files t (marked (cond b (used r) []) 0 marks-here) (front ++ cond b (first_bytes e) e ∷ drop (i + 1) t.files) ≡ cond b (unlinked (files-done ms t i) i) (files-done ms t i)
       go true = ap (with-files t (marked (used r) 0 marks-here)) (sym (ap (λ x. set (front ++ drop i t.files) i (first_bytes x)) at_here ∙ ap (λ xs. set xs i (first_bytes e)) here ∙ set_at front e (drop (i + 1) t.files) (first_bytes e) i front_long))
       go false = ap (with-files t marks-here) (sym here)
 
 -- The laws that the loop over the files brings along. It starts from the tables t.
-pub record Files (ms : List Bool) (t : Model) : Type 0 where
-  pub step : (u : Tables) (i : ℕ) (e : Entry) → i < 32 → view u ≡ files-done ms t i → files-done ms t (i + 1) ≡ cond (live (entry_view (get_or u.files i e)) && is_marked ms (get_or u.files i e).parent) (unlinked (files-done ms t i) i) (files-done ms t i)
-  pub over : files-done ms t 32 ≡ without_files ms t
+pub record Files (ms : List Bool) (t : Tables) : Type 0 where
+  pub step : (i : ℕ) (e : Entry) → i < 32 → files-done ms (view t) (i + 1) ≡ cond (live (entry_view (get_or t.files i e)) && is_marked ms (get_or t.files i e).parent) (unlinked (files-done ms (view t) i) i) (files-done ms (view t) i)
+  pub over : files-done ms (view t) 32 ≡ without_files ms (view t)
 
 files_start : (ms : List Bool) (t : Model) → t ≡ files-done ms t 0
 unfolding files-done
@@ -94,13 +94,13 @@ files-over ms t n p q =
     ∙ ap₂ (λ (xs ys : List ModelEntry). with-files t (marked (places_in ms t.files t.rows) 0 t.marks) (map (file_less ms) xs ++ ys)) f (drop_all n t.files (omega arith))
     ∙ ap (with-files t (marked (places_in ms t.files t.rows) 0 t.marks)) (append-nil (map (file_less ms) t.files))
 
-pub files_laws : (ms : List Bool) (t : Tables) → (view t ≡ files-done ms (view t) 0) × Files ms (view t)
+pub files_laws : (ms : List Bool) (t : Tables) → (view t ≡ files-done ms (view t) 0) × Files ms t
 files_laws ms t =
     let long = length-map t.files entry_view ∙ t.filed in
     let rows = length-map t.rows (λ (r : Row). r.places) ∙ t.rowed in (
       files_start ms (view t),
       record {
-        step = λ u i e l h. done-step ms (view t) i (omega arith) (omega arith) ∙ ap (λ x. cond (goes_in ms x) (unlinked (files-done ms (view t) i) i) (files-done ms (view t) i)) (sym (ap (λ (v : Model). get_or v.files i no_entry) h) ∙ (let f = u.filed in get_or-map entry_view u.files i e no_entry (omega arith)));
+        step = λ i e l. done-step ms (view t) i (omega arith) (omega arith) ∙ ap (λ x. cond (goes_in ms x) (unlinked (files-done ms (view t) i) i) (files-done ms (view t) i)) (let f = t.filed in get_or-map entry_view t.files i e no_entry (omega arith));
         over = files-over ms (view t) 32 long rows;
       },
     )
@@ -153,7 +153,7 @@ module _ (ms : List Bool) (ds : List ModelEntry) (i : ℕ) (inside : i < length 
 pub record Dirs (ms : List Bool) (t : Tables) : Type 0 where
   pub frees : (es : List Entry) (i : ℕ) (e f : Entry) → i < 32 → length es ≡ 32 → entries_view es ≡ dirs-done ms (entries_view t.dirs) i → is_marked ms i ≡ true → f.parent ≡ (get_or es i e).parent → f.name ≡ set (get_or es i e).name 0 0 → entries_view (set es i f) ≡ dirs-done ms (entries_view t.dirs) (i + 1)
   pub leaves : (i : ℕ) → i < 32 → is_marked ms i ≡ false → dirs-done ms (entries_view t.dirs) (i + 1) ≡ dirs-done ms (entries_view t.dirs) i
-  pub over : (u : Tables) → entries_view u.dirs ≡ dirs-done ms (entries_view t.dirs) 32 → u.marks ≡ t.marks → u.files ≡ t.files → u.rows ≡ t.rows → view u ≡ without_dirs ms (view t)
+  pub over : (es : List Entry) (i : ℕ) → 32 ≤ i → i ≤ 32 → entries_view es ≡ dirs-done ms (entries_view t.dirs) i → record { marks = (view t).marks; dirs = entries_view es; files = (view t).files; rows = (view t).rows } ≡ without_dirs ms (view t)
 
 dirs_start : (ms : List Bool) (ds : List ModelEntry) → ds ≡ dirs-done ms ds 0
 unfolding dirs-done
@@ -172,6 +172,6 @@ dirs_laws ms t =
       record {
         frees = λ es i e f l n h m p q. freed-at es i e f (omega arith) (λ j. record { parent = p j; name = q j }) ∙ ap (λ xs. freed xs i) h ∙ sym (dirs-freed ms ds i (omega arith) m);
         leaves = λ i l m. dirs_left ms ds i (omega arith) m;
-        over = λ u d m f r. λ j. record { marks = marks_view (m j); dirs = (d ∙ dirs-over ms ds 32 long) j; files = entries_view (f j); rows = rows_view (r j) };
+        over = λ es i l m d. let n : i ≡ 32 = omega arith in ap (λ (xs : List ModelEntry). record { marks = (view t).marks; dirs = xs; files = (view t).files; rows = (view t).rows }) (d ∙ ap (dirs-done ms ds) n ∙ dirs-over ms ds 32 long);
       },
     )

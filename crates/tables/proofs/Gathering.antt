@@ -1,13 +1,17 @@
 -- The sectors that the rows of live files claim, file after file.
-use Rattle.std.proofs.Common.{◌≡◌, ℕ, ◌+◌, ◌<◌, ◌≤◌, Bool, true, false, cond, not, ◌&&◌, ◌||◌, eqb, leb, List, [], ◌∷◌, ◌++◌, length, get_or, drop, replicate, sym, refl, ap, ◌∙◌, ap₂, arith}
+use Rattle.std.proofs.Common.{◌≡◌, ℕ, ◌<◌, Bool, true, false, cond, not, ◌&&◌, ◌||◌, eqb, leb, List, [], ◌∷◌, ◌++◌, length, drop, replicate, sym, refl, ap, ◌∙◌, ap₂, subst, ◌⊎◌, inl, inr, arith}
 use mathlib.Core.Bool.{and-true, or-false}
-use Rattle.std.proofs.lemmas.List.{at_drop_all, drop_more, get_or-replicate, length-replicate}
+use Rattle.std.proofs.lemmas.List.{get_or-replicate}
 use Rattle.std.proofs.lemmas.Bool.{and_parts}
 use Rattle.model.specs.Sizes.{blank}
-use Rattle.model.specs.Tables.{Tables, Entry, all, no_entry, live, used, data_sector, live_places, member, distinct, proper_row, proper_rows}
+use Rattle.model.specs.Tables.{Tables, Entry, all, live, used, data_sector, live_places, member, distinct, proper_row, proper_rows}
 use Rattle.model.proofs.Common.Members.{member-append}
 use Rattle.model.proofs.Tables.Rules.{data_range}
 use Rattle.tables.specs.Rules.{told, unclaimed, Claimed, rows_sound}
+use Rattle.tables.specs.declared.types.Entry.{Entry as CodeEntry}
+use Rattle.tables.specs.declared.types.Row.{Row}
+use Rattle.tables.specs.declared.types.Tables.{Tables as CodeTables}
+use Rattle.tables.specs.Views.{entry_view, entries_view, rows_view, view}
 use Rattle.tables.proofs.Bools.{or_swap, and_cross, all_join, all_weaker}
 use Rattle.tables.proofs.Claiming.{free-append}
 
@@ -53,55 +57,59 @@ left_start lives c es rs none = go (proper_rows lives es rs) refl
     go true e = ap (λ a. distinct (live_places es rs) && a) (all_weaker (λ s. data_sector s && lives s) (λ s. not (c s)) open_to (live_places es rs) (places_data lives es rs e)) ∙ and-true (distinct (live_places es rs))
     go false e = refl
 
--- the rows of i files have claimed their sectors: what is left gives the answer, and adds what is still to be claimed
-pub record Claims (lives : ℕ → Bool) (t : Tables) (c : List Bool) (i : ℕ) : Type 0 where
-  pub sized : length c ≡ 256
-  pub gives : left lives (told c) (drop i t.files) (drop i t.rows) ≡ rows_sound lives t
-  pub adds : (x : ℕ) → x < 256 → (member x (live_places (drop i t.files) (drop i t.rows)) || told c x) ≡ member x (live_places t.files t.rows)
+cons_not_nil : {A : Type 0} {x : A} {xs : List A} → x ∷ xs ≡ [] → ⊥
+cons_not_nil e = cc
+
+-- the rows of some files have claimed their sectors: the others, es with the rows rs, give the answer, and add what is
+-- still to be claimed
+pub record Gathers (lives : ℕ → Bool) (t : Tables) (c : List Bool) (es : List Entry) (rs : List (List ℕ)) : Type 0 where
+  pub gives : left lives (told c) es rs ≡ rows_sound lives t
+  pub adds : (x : ℕ) → x < 256 → (member x (live_places es rs) || told c x) ≡ member x (live_places t.files t.rows)
+
+-- all files are left
+pub none_claimed : (lives : ℕ → Bool) (t : CodeTables) (fs : List CodeEntry) (rs : List Row) → fs ≡ t.files → rs ≡ t.rows → Gathers lives (view t) (replicate 256 false) (entries_view fs) (rows_view rs)
+none_claimed lives t fs rs p q = subst (λ (xs : List CodeEntry). Gathers lives (view t) (replicate 256 false) (entries_view xs) (rows_view rs)) (sym p) (subst (λ (ys : List Row). Gathers lives (view t) (replicate 256 false) (view t).files (rows_view ys)) (sym q) (start 256 refl))
+  where
+    start : (n : ℕ) → n ≡ 256 → Gathers lives (view t) (replicate n false) (view t).files (view t).rows
+    start n e = record {
+      gives = left_start lives (told (replicate n false)) (view t).files (view t).rows (λ x d. get_or-replicate n x false true (let h = data_range x d in omega arith));
+      adds = λ x l. ap (λ b. member x (live_places (view t).files (view t).rows) || b) (get_or-replicate n x false true (omega arith)) ∙ or-false (member x (live_places (view t).files (view t).rows));
+    }
 
 module _ (lives : ℕ → Bool) (t : Tables) where
-  pub none_claimed : Claims lives t (replicate 256 false) 0
-  none_claimed = start 256 refl
-    where
-      start : (n : ℕ) → n ≡ 256 → Claims lives t (replicate n false) 0
-      start n e = record {
-        sized = length-replicate n false ∙ e;
-        gives = left_start lives (told (replicate n false)) t.files t.rows (λ x d. get_or-replicate n x false true (let h = data_range x d in omega arith));
-        adds = λ x l. ap (λ b. member x (live_places t.files t.rows) || b) (get_or-replicate n x false true (omega arith)) ∙ or-false (member x (live_places t.files t.rows));
-      }
+  -- no file or no row is left
+  pub all_claimed : (c : List Bool) (fs : List CodeEntry) (rs : List Row) → (fs ≡ []) ⊎ (rs ≡ []) → Gathers lives t c (entries_view fs) (rows_view rs) → (rows_sound lives t ≡ true) × Claimed t c
+  all_claimed c [] rs e k = (sym k.gives, k.adds)
+  all_claimed c (f ∷ fs) [] e k = (sym k.gives, k.adds)
+  all_claimed c (f ∷ fs) (r ∷ rs) (inl e) k = absurd (cons_not_nil e)
+  all_claimed c (f ∷ fs) (r ∷ rs) (inr e) k = absurd (cons_not_nil e)
 
-  pub all_claimed : (c : List Bool) (i : ℕ) → length t.files ≤ i → Claims lives t c i → (rows_sound lives t ≡ true) × Claimed t c
-  all_claimed c i l k = (
-    sym k.gives ∙ at_drop_all (λ es. left lives (told c) es (drop i t.rows)) t.files i l,
-    λ x m. sym (at_drop_all (λ es. member x (live_places es (drop i t.rows)) || told c x) t.files i l) ∙ k.adds x m,
-  )
+  -- a file and its row are next
+  pub next_file : (c : List Bool) (fs gs : List CodeEntry) (f : CodeEntry) (rs ss : List Row) (r : Row) → fs ≡ f ∷ gs → rs ≡ r ∷ ss → Gathers lives t c (entries_view fs) (rows_view rs) → Gathers lives t c (entry_view f ∷ entries_view gs) (r.places ∷ rows_view ss)
+  next_file c fs gs f rs ss r p q k = subst (λ (xs : List CodeEntry). Gathers lives t c (entries_view xs) (r.places ∷ rows_view ss)) p (subst (λ (ys : List Row). Gathers lives t c (entries_view fs) (rows_view ys)) q k)
 
--- file i with the entry e and the row r
-module _ (lives : ℕ → Bool) (t : Tables) (c : List Bool) (i : ℕ) (k : Claims lives t c i) (in_files : i < length t.files) (in_rows : i < length t.rows) (e : Entry) (r : List ℕ) (at-e : get_or t.files i no_entry ≡ e) (at-r : get_or t.rows i [] ≡ r) where
-  first_of : (F : List Entry → List (List ℕ) → Bool) → F (drop i t.files) (drop i t.rows) ≡ F (e ∷ drop (i + 1) t.files) (r ∷ drop (i + 1) t.rows)
-  first_of F = ap₂ F (drop_more t.files i no_entry in_files ∙ ap (λ x. x ∷ drop (i + 1) t.files) at-e) (drop_more t.rows i [] in_rows ∙ ap (λ x. x ∷ drop (i + 1) t.rows) at-r)
-
-  gives_on : (b : Bool) → live e ≡ b → cond b ((proper_row lives r && unclaimed (told c) (used r)) && left lives (λ x. member x (used r) || told c x) (drop (i + 1) t.files) (drop (i + 1) t.rows)) (left lives (told c) (drop (i + 1) t.files) (drop (i + 1) t.rows)) ≡ rows_sound lives t
+-- the next file, with the entry e and the row r
+module _ (lives : ℕ → Bool) (t : Tables) (c : List Bool) (e : Entry) (es : List Entry) (r : List ℕ) (rs : List (List ℕ)) (k : Gathers lives t c (e ∷ es) (r ∷ rs)) where
+  gives_on : (b : Bool) → live e ≡ b → cond b ((proper_row lives r && unclaimed (told c) (used r)) && left lives (λ x. member x (used r) || told c x) es rs) (left lives (told c) es rs) ≡ rows_sound lives t
   gives_on b v =
-      ap (λ x. cond x ((proper_row lives r && unclaimed (told c) (used r)) && left lives (λ x. member x (used r) || told c x) (drop (i + 1) t.files) (drop (i + 1) t.rows)) (left lives (told c) (drop (i + 1) t.files) (drop (i + 1) t.rows))) (sym v)
-      ∙ sym (first_of (left lives (told c)) ∙ left_step lives (told c) e (drop (i + 1) t.files) r (drop (i + 1) t.rows))
+      ap (λ x. cond x ((proper_row lives r && unclaimed (told c) (used r)) && left lives (λ x. member x (used r) || told c x) es rs) (left lives (told c) es rs)) (sym v)
+      ∙ sym (left_step lives (told c) e es r rs)
       ∙ k.gives
 
-  adds_on : (b : Bool) → live e ≡ b → (x : ℕ) → x < 256 → cond b (member x (live_places (drop (i + 1) t.files) (drop (i + 1) t.rows)) || (member x (used r) || told c x)) (member x (live_places (drop (i + 1) t.files) (drop (i + 1) t.rows)) || told c x) ≡ member x (live_places t.files t.rows)
+  adds_on : (b : Bool) → live e ≡ b → (x : ℕ) → x < 256 → cond b (member x (live_places es rs) || (member x (used r) || told c x)) (member x (live_places es rs) || told c x) ≡ member x (live_places t.files t.rows)
   adds_on b v x l =
-      ap (λ y. cond y (member x (live_places (drop (i + 1) t.files) (drop (i + 1) t.rows)) || (member x (used r) || told c x)) (member x (live_places (drop (i + 1) t.files) (drop (i + 1) t.rows)) || told c x)) (sym v)
-      ∙ sym (first_of (λ es rs. member x (live_places es rs) || told c x) ∙ places-step x (told c x) e (drop (i + 1) t.files) r (drop (i + 1) t.rows))
+      ap (λ y. cond y (member x (live_places es rs) || (member x (used r) || told c x)) (member x (live_places es rs) || told c x)) (sym v)
+      ∙ sym (places-step x (told c x) e es r rs)
       ∙ k.adds x l
 
-  pub free_passes : live e ≡ false → Claims lives t c (i + 1)
-  free_passes v = record { sized = k.sized; gives = gives_on false v; adds = adds_on false v }
+  pub free_passes : live e ≡ false → Gathers lives t c es rs
+  free_passes v = record { gives = gives_on false v; adds = adds_on false v }
 
-  pub row_claims : live e ≡ true → true ≡ (proper_row lives r && unclaimed (told c) (used r)) → (d : List Bool) → length d ≡ 256 → ((x : ℕ) → told d x ≡ (member x (used r) || told c x)) → Claims lives t d (i + 1)
-  row_claims v h d n claims = record {
-    sized = n;
-    gives = ap₂ (λ (b : Bool) (f : ℕ → Bool). b && left lives f (drop (i + 1) t.files) (drop (i + 1) t.rows)) h (λ j x. claims x j) ∙ gives_on true v;
-    adds = λ x l. ap (λ b. member x (live_places (drop (i + 1) t.files) (drop (i + 1) t.rows)) || b) (claims x) ∙ adds_on true v x l;
+  pub row_claims : live e ≡ true → (proper_row lives r && unclaimed (told c) (used r)) ≡ true → (d : List Bool) → ((x : ℕ) → told d x ≡ (member x (used r) || told c x)) → Gathers lives t d es rs
+  row_claims v h d claims = record {
+    gives = ap₂ (λ (b : Bool) (f : ℕ → Bool). b && left lives f es rs) (sym h) (λ j x. claims x j) ∙ gives_on true v;
+    adds = λ x l. ap (λ b. member x (live_places es rs) || b) (claims x) ∙ adds_on true v x l;
   }
 
-  pub row_refused : live e ≡ true → false ≡ (proper_row lives r && unclaimed (told c) (used r)) → rows_sound lives t ≡ false
-  row_refused v h = sym (ap (λ b. b && left lives (λ x. member x (used r) || told c x) (drop (i + 1) t.files) (drop (i + 1) t.rows)) h ∙ gives_on true v)
+  pub row_refused : live e ≡ true → (proper_row lives r && unclaimed (told c) (used r)) ≡ false → rows_sound lives t ≡ false
+  row_refused v h = sym (gives_on true v) ∙ ap (λ b. b && left lives (λ x. member x (used r) || told c x) es rs) h

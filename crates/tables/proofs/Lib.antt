@@ -2,6 +2,7 @@ pub mod Admission
 pub mod Apart
 pub mod Blanks
 pub mod Bools
+pub mod Bytes
 pub mod Changed
 pub mod Changing
 pub mod Choosing
@@ -17,13 +18,12 @@ pub mod Hunts
 pub mod Items
 pub mod Listings
 pub mod Marking
-pub mod Pieces
 pub mod Positions
 pub mod Prunes
 pub mod Roads
-pub mod Scans
 pub mod Seeks
 pub mod Shapes
 pub mod Subtrees
 pub mod Told
 pub mod Verdict
+pub mod Wholes

@@ -10,10 +10,11 @@ use Rattle.model.proofs.Common.Lists.{length_from, get_or_from}
 use Rattle.model.proofs.Common.Tests.{refute, each_from, each_holds}
 use Rattle.model.proofs.Tables.Rules.{live_dir-live}
 use Rattle.tables.specs.Views.{entry_view, entries_view, view}
+use Rattle.tables.specs.declared.consistent.Consistent.{Consistent}
 use Rattle.tables.specs.declared.types.Entry.{Entry}
 use Rattle.tables.specs.declared.types.Tables.{Tables}
 use Rattle.tables.proofs.Shapes.{shaped}
-use Rattle.tables.specs.Subtrees.{is_sound, beneath, is_marked, with_subtree, untouched}
+use Rattle.tables.specs.Subtrees.{beneath, is_marked, with_subtree, untouched}
 use Rattle.tables.proofs.Subtrees.{Kid, is_kid, below, beneath_out, top_beneath, lower_beneath, not_top, not-before, made_up}
 use Rattle.tables.proofs.Told.{told}
 
@@ -212,8 +213,9 @@ module _ (t : Tables) (dir : ℕ) (i : Image) (s : Sound i (view t)) (lives : Li
       over = λ o e n. over o n 32 (omega arith) ∙ ap (λ x. so_far ds dir x 32) (sym e);
     }
 
-pub walk : (t : Tables) (dir : ℕ) (old : List Bool) → is_sound (view t) ≡ true → live_dir (entries_view t.dirs) dir ≡ true → untouched (entries_view t.dirs) dir old ≡ true → length old ≡ 32 → (set old dir true ≡ so_far (entries_view t.dirs) dir (set old dir true) 0) × Walk t dir (set old dir true)
-unfolding so_far is_sound
-walk t dir old k lives u l =
-    let q = told (view t) (shaped t) k in
+pub walk : (k : Consistent) (dir : ℕ) (old : List Bool) → live_dir (entries_view k.tables.dirs) dir ≡ true → untouched (entries_view k.tables.dirs) dir old ≡ true → length old ≡ 32 → (set old dir true ≡ so_far (entries_view k.tables.dirs) dir (set old dir true) 0) × Walk k.tables dir (set old dir true)
+unfolding so_far
+walk k dir old lives u l =
+    let t = k.tables in
+    let q = told (view t) (shaped t) k.sound in
     (refl, walks t dir q.0 q.1 (live_dir-live (entries_view t.dirs) dir lives) old l u)

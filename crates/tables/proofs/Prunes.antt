@@ -18,7 +18,7 @@ use Rattle.tables.specs.Views.{view}
 use Rattle.tables.proofs.Shapes.{shaped}
 use Rattle.tables.specs.declared.consistent.Consistent.{Consistent}
 use Rattle.tables.specs.Plans.{there}
-use Rattle.tables.specs.Subtrees.{is_sound, beneath, is_marked, with_subtree, untouched, goes_in, file_less, places_in, without_files, dirs_out, without_dirs, without_subtree}
+use Rattle.tables.specs.Subtrees.{beneath, is_marked, with_subtree, untouched, goes_in, file_less, places_in, without_files, dirs_out, without_dirs, without_subtree}
 use Rattle.tables.proofs.Marking.{with-marks, at-untouched}
 use Rattle.tables.proofs.Subtrees.{live-live_dir}
 use Rattle.tables.proofs.Told.{told}
@@ -101,15 +101,13 @@ module _ (i : Image) (t : Tables) (sized : Shaped t) (s : Sound i t) (top : ℕ)
 pub nothing_touched : (ds : List Entry) (top : ℕ) (none : List Bool) → Clear none → untouched ds top none ≡ true
 nothing_touched ds top none clear = at-untouched ds top none (λ d h. clear.1 d)
 
-pub all_gone : (t : Tables) → Shaped t → is_sound t ≡ true → (top : ℕ) → live_dir t.dirs top ≡ true → (none ms : List Bool) → Clear none → ms ≡ with_subtree t.dirs top none → without_dirs ms (without_files ms t) ≡ without_subtree top t
-unfolding is_sound without_subtree
-all_gone t sized k top lives none ms clear e =
-    let q = told t sized k in
+pub all_gone : (k : Consistent) (top : ℕ) → live_dir (view k.tables).dirs top ≡ true → (none marks : List Bool) → Clear none → marks ≡ with_subtree (view k.tables).dirs top none → without_dirs marks (without_files marks (view k.tables)) ≡ without_subtree top (view k.tables)
+unfolding without_subtree
+all_gone k top lives none marks clear e =
+    let t = view k.tables in
+    let sized = shaped k.tables in
+    let q = told t sized k.sound in
     ap (λ m. without_dirs m (without_files m t)) e ∙ pruned_is q.0 t sized q.1 top (live_dir-live t.dirs top lives) none clear
-
-pub known_sound : (k : Consistent) → is_sound (view k.tables) ≡ true
-unfolding is_sound
-known_sound k = k.sound
 
 pub top_lives : (k : Consistent) (d : ℕ) (p : List ℕ) (top : ℕ) → picked (there directory (view k.tables) d p) ≡ None → named (view k.tables) d p ≡ Some (directory, top) → live_dir (view k.tables).dirs top ≡ true
 top_lives k d p top passed names =

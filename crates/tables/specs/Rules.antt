@@ -1,6 +1,6 @@
 -- The rules of soundness in the parts that the code tests one by one.
 use Rattle.std.specs.Prelude.{◌≡◌, ℕ, ◌<◌, Bool, true, cond, not, ◌&&◌, ◌||◌, List, ◌++◌, length, drop, nat_eq, nat_le, nat_lt, slice_index_or}
-use Rattle.model.specs.Sizes.{first_data, last_data, entry_count, mark_free, mark_used, mark_dead, blank}
+use Rattle.model.specs.Sizes.{sector_size, first_data, last_data, entry_count, mark_free, mark_used, mark_dead, blank}
 use Rattle.model.specs.Tables.{Tables, all, each, used, member, distinct, live_places, live_dir, proper_entry, climbs, unshared, proper_rows}
 
 -- what an array with a place for each of the sectors 0x00 to 0xFF tells
@@ -25,6 +25,10 @@ Claimed t c = (s : ℕ) → s < 256 → told c s ≡ member s (live_places t.fil
 -- the mark of a sector, as the two arrays tell
 abbrev pub due : List Bool → List Bool → ℕ → ℕ
 due dead claimed s = cond (nat_lt s first_data) mark_used (cond (nat_lt last_data s) mark_free (cond (told dead s) mark_dead (cond (told claimed s) mark_used mark_free)))
+
+-- every mark is the one that is due
+abbrev pub marks_due : List Bool → List Bool → Tables → Bool
+marks_due dead claimed t = each 0 sector_size (λ s. nat_eq (slice_index_or t.marks s 1) (due dead claimed s))
 
 abbrev pub rows_sound : (ℕ → Bool) → Tables → Bool
 rows_sound lives t = proper_rows lives t.files t.rows && distinct (live_places t.files t.rows)

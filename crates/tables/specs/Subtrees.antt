@@ -2,12 +2,8 @@
 use Rattle.std.specs.Prelude.{ℕ, suc, Bool, false, cond, not, ◌&&◌, ◌||◌, List, [], ◌∷◌, ◌++◌, map, length, slice_index_or}
 use Rattle.model.specs.Image.{from_to}
 use Rattle.model.specs.Sizes.{entry_count, mark_free}
-use Rattle.model.specs.Tables.{Tables, Entry, each, live, live_dir, used, consistent}
+use Rattle.model.specs.Tables.{Tables, Entry, each, live, live_dir, used}
 use Rattle.model.specs.Volume.{under, deep, first_bytes, marked, pruned}
-
--- sound as far as the tables alone tell, kept shut
-unfoldable pub is_sound : Tables → Bool
-is_sound t = consistent t
 
 -- d is a live directory: top, or one beneath it
 unfoldable pub beneath : List Entry → ℕ → ℕ → Bool

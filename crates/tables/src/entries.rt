@@ -1,10 +1,11 @@
 // An entry as its sixteen bytes: one for the parent, then fifteen for the name.
-ghost use Rattle.std.specs.Prelude.{◌≡◌, ◌≤◌, not, length, take};
+ghost use Rattle.std.specs.Prelude.{◌≡◌, ◌≤◌, not, ◌∷◌, length, take};
 ghost use Rattle.model.specs.Names.{padded as padded_name};
 ghost use Rattle.model.specs.Tables.{entry, entries, entries_bytes, live};
 ghost use Rattle.tables.specs.Views.{entry_view, entries_view};
 
 use crate::names::padded;
+use crate::pieces::{cut, joined};
 use crate::sizes::{ENTRIES, ENTRY, NAME, SECTOR};
 use crate::slots::Slot;
 use crate::types::Entry;
@@ -24,22 +25,6 @@ impl Entry {
         Entry { parent, name }
     }
 
-    // The entry that sixteen bytes hold.
-    pub(crate) fn decode(bytes: &[u8]) -> Entry
-        requires { length bytes.now ≡ 16 }
-        ensures { entry_view result ≡ entry bytes.now }
-    {
-        let [parent, rest @ ..] = bytes else {
-            return Entry::FREE;
-        };
-        let mut name = [0; NAME];
-        name.copy_from_slice(rest);
-        Entry {
-            parent: *parent,
-            name,
-        }
-    }
-
     pub fn is_live(&self) -> bool
         ensures { result ≡ live (entry_view self.now) }
     {
@@ -55,27 +40,45 @@ impl Slot for Entry {
     }
 }
 
+// The entry that sixteen bytes hold.
+impl From<[u8; ENTRY]> for Entry {
+    ghost from_gives = { λ bytes e. entry_view e ≡ entry bytes };
+
+    fn from(bytes: [u8; ENTRY]) -> Entry {
+        let [parent, rest @ ..] = bytes.as_slice() else {
+            return Entry::FREE;
+        };
+        let mut name = [0; NAME];
+        name.copy_from_slice(rest);
+        Entry {
+            parent: *parent,
+            name,
+        }
+    }
+}
+
+// An entry's sixteen bytes.
+impl From<Entry> for [u8; ENTRY] {
+    ghost from_gives = { λ e bytes. bytes ≡ e.parent ∷ e.name };
+
+    fn from(entry: Entry) -> [u8; ENTRY] {
+        let mut bytes = [0; ENTRY];
+        bytes[0] = entry.parent;
+        bytes[1..].copy_from_slice(&entry.name);
+        bytes
+    }
+}
+
 // The entries that a sector holds.
 pub fn decode(sector: &[u8; SECTOR]) -> [Entry; ENTRIES]
     ensures { entries_view result ≡ entries sector.now }
 {
-    let mut all = [Entry::FREE; ENTRIES];
-    for (i, entry) in all.iter_mut().enumerate() {
-        let at = ENTRY * i;
-        *entry = Entry::decode(&sector[at..at + ENTRY]);
-    }
-    all
+    cut(sector).map(Entry::from)
 }
 
 // The sector that holds the entries.
 pub fn encode(all: &[Entry; ENTRIES]) -> [u8; SECTOR]
     ensures { result ≡ entries_bytes (entries_view all.now) }
 {
-    let mut sector = [0; SECTOR];
-    for (i, entry) in all.iter().enumerate() {
-        let at = ENTRY * i;
-        sector[at] = entry.parent;
-        sector[at + 1..at + ENTRY].copy_from_slice(&entry.name);
-    }
-    sector
+    joined(&all.map(<[u8; ENTRY]>::from))
 }

@@ -16,6 +16,7 @@ pub mod marks;
 pub mod names;
 pub mod outcomes;
 pub mod paths;
+mod pieces;
 pub mod pruning;
 pub mod removing;
 pub mod renaming;

@@ -26,20 +26,12 @@ impl Slot for Mark {
 pub fn decode(sector: &[u8; SECTOR]) -> [Mark; SECTOR]
     ensures { marks_view result ≡ sector.now }
 {
-    let mut all = [Mark::FREE; SECTOR];
-    for (i, mark) in all.iter_mut().enumerate() {
-        *mark = Mark(sector[i]);
-    }
-    all
+    sector.map(Mark)
 }
 
 // The sector that holds the marks.
 pub fn encode(all: &[Mark; SECTOR]) -> [u8; SECTOR]
     ensures { result ≡ marks_view all.now }
 {
-    let mut sector = [0; SECTOR];
-    for (i, mark) in all.iter().enumerate() {
-        sector[i] = mark.0;
-    }
-    sector
+    all.map(|mark| mark.0)
 }

@@ -3,6 +3,7 @@ ghost use Rattle.std.specs.Prelude.{◌≡◌, length};
 ghost use Rattle.model.specs.Tables.{parts, rows_bytes, used};
 ghost use Rattle.tables.specs.Views.{rows_view};
 
+use crate::pieces::{cut, joined};
 use crate::sizes::{ENTRIES, PLACES, SECTOR};
 use crate::types::Row;
 
@@ -11,26 +12,32 @@ impl Row {
         places: [0; PLACES],
     };
 
-    // The row that sixteen bytes hold.
-    pub(crate) fn decode(bytes: &[u8]) -> Row
-        requires { length bytes.now ≡ 16 }
-        ensures { result.places ≡ bytes.now }
-    {
-        let mut places = [0; PLACES];
-        places.copy_from_slice(bytes);
-        Row { places }
-    }
-
     // How many places are used: those before the first 0x00.
     pub fn count(&self) -> usize
         ensures { result ≡ length (used self.now.places) }
     {
-        for i in 0..PLACES {
-            if self.places[i] == 0 {
-                return i;
-            }
-        }
-        PLACES
+        self.places
+            .iter()
+            .position(|&place| place == 0)
+            .unwrap_or(PLACES)
+    }
+}
+
+// The row that sixteen bytes hold.
+impl From<[u8; PLACES]> for Row {
+    ghost from_gives = { λ places r. r.places ≡ places };
+
+    fn from(places: [u8; PLACES]) -> Row {
+        Row { places }
+    }
+}
+
+// A row's sixteen bytes.
+impl From<Row> for [u8; PLACES] {
+    ghost from_gives = { λ r places. places ≡ r.places };
+
+    fn from(row: Row) -> [u8; PLACES] {
+        row.places
     }
 }
 
@@ -38,22 +45,12 @@ impl Row {
 pub fn decode(sector: &[u8; SECTOR]) -> [Row; ENTRIES]
     ensures { rows_view result ≡ parts 32 sector.now }
 {
-    let mut all = [Row::EMPTY; ENTRIES];
-    for (i, row) in all.iter_mut().enumerate() {
-        let at = PLACES * i;
-        *row = Row::decode(&sector[at..at + PLACES]);
-    }
-    all
+    cut(sector).map(Row::from)
 }
 
 // The sector that holds the rows.
 pub fn encode(all: &[Row; ENTRIES]) -> [u8; SECTOR]
     ensures { result ≡ rows_bytes (rows_view all.now) }
 {
-    let mut sector = [0; SECTOR];
-    for (i, row) in all.iter().enumerate() {
-        let at = PLACES * i;
-        sector[at..at + PLACES].copy_from_slice(&row.places);
-    }
-    sector
+    joined(&all.map(<[u8; PLACES]>::from))
 }

@@ -23,12 +23,7 @@ impl Entry {
     fn is_apart_from(&self, others: &[Entry]) -> bool
         ensures { result ≡ all (λ f. not (same_place (entry_view self.now) f)) (entries_view others.now) }
     {
-        for other in others {
-            if self.shares_place(other) {
-                return false;
-            }
-        }
-        true
+        !others.iter().any(|other| self.shares_place(other))
     }
 }
 
@@ -36,10 +31,12 @@ impl Entry {
 fn are_apart(entries: &[Entry]) -> bool
     ensures { result ≡ unshared (entries_view entries.now) }
 {
-    for (i, entry) in entries.iter().enumerate() {
-        if !entry.is_apart_from(&entries[i + 1..]) {
+    let mut left = entries;
+    while let [entry, behind @ ..] = left {
+        if !entry.is_apart_from(behind) {
             return false;
         }
+        left = behind;
     }
     true
 }
@@ -49,20 +46,18 @@ impl Tables {
     pub fn is_sound(&self, dead: &[bool; 256]) -> bool
         ensures { result ≡ sound_by (λ s. not (slice_index_or dead.now s true)) (view self.now) }
     {
-        let Some(claimed) = self.claimed(dead) else {
-            return false;
-        };
-        self.marks_are_right(dead, &claimed) && self.entries_are_sound()
+        self.claims(dead).is_some_and(|claims| self.marks_are_due(&claims)
+            && self.entries_are_sound())
     }
 
     // Names and parents, apart from the files' sectors.
     fn entries_are_sound(&self) -> bool
         ensures { result ≡ entries_sound (view self.now) }
     {
-        if !self.entries_are_proper(&self.dirs) || !self.entries_are_proper(&self.files) {
-            return false;
-        }
-        self.dirs_climb() && self.items_are_apart()
+        self.entries_are_proper(&self.dirs)
+            && self.entries_are_proper(&self.files)
+            && self.dirs_climb()
+            && self.items_are_apart()
     }
 
     // Free, or with a proper name and a parent that is the root or a live directory.
@@ -75,15 +70,11 @@ impl Tables {
     fn entries_are_proper(&self, entries: &[Entry]) -> bool
         ensures { result ≡ all (proper_entry (view self.now).dirs) (entries_view entries.now) }
     {
-        for entry in entries {
-            if !self.is_proper_entry(entry) {
-                return false;
-            }
-        }
-        true
+        entries.iter().all(|entry| self.is_proper_entry(entry))
     }
 
     // The parents lead from `dir` to the root; more steps than there are directories go in a ring.
+    // The `for` counts steps, no index. `(0..ENTRIES).try_fold(dir, ..)` would pass off the arrival as a failure.
     fn climbs(&self, dir: u8) -> bool
         ensures { result ≡ climbs (view self.now).dirs entry_count dir }
     {
@@ -103,23 +94,15 @@ impl Tables {
     fn dirs_climb(&self) -> bool
         ensures { result ≡ rooted (view self.now) }
     {
-        for dir in 0..ENTRIES as u8 {
-            if self.is_live_dir(dir) && !self.climbs(dir) {
-                return false;
-            }
-        }
-        true
+        (0..ENTRIES as u8).all(|dir| !self.is_live_dir(dir) || self.climbs(dir))
     }
 
     // No two live entries, directories and files together, share parent and name.
     fn items_are_apart(&self) -> bool
         ensures { result ≡ unshared ((view self.now).dirs ++ (view self.now).files) }
     {
-        for (i, dir) in self.dirs.iter().enumerate() {
-            if !dir.is_apart_from(&self.dirs[i + 1..]) || !dir.is_apart_from(&self.files) {
-                return false;
-            }
-        }
-        are_apart(&self.files)
+        are_apart(&self.dirs)
+            && are_apart(&self.files)
+            && self.dirs.iter().all(|dir| dir.is_apart_from(&self.files))
     }
 }

@@ -1,9 +1,11 @@
-// The four tables as the code holds them. A ghost field says how long an array is, since no other fact does.
+// The four tables as the code holds them. A ghost field says how long an array is: the check knows it of an argument,
+// but a lemma about a value has no other fact that says so.
 ghost use Rattle.std.specs.Prelude.{◌≡◌, length};
 
 use crate::sizes::{ENTRIES, NAME, PLACES, SECTOR};
 
 // A directory or a file: the number of the directory that holds it, and the name, filled up with 0x00.
+// The parent is a number and no reference, as the format has it.
 #[derive(Clone, Copy, PartialEq, Eq, Debug)]
 pub struct Entry {
     pub parent: u8,
@@ -11,7 +13,8 @@ pub struct Entry {
     ghost sized: { length name ≡ 15 },
 }
 
-// A byte of the allocation map.
+// A byte of the allocation map. An enum of the three marks is no plainer: a map that is not sound may hold any byte and
+// is kept as it is, and `Other(u8)` would spell one byte in two ways.
 #[derive(Clone, Copy, PartialEq, Eq, Debug)]
 pub struct Mark(pub u8);
 
@@ -22,6 +25,8 @@ pub struct Row {
     ghost sized: { length places ≡ 16 },
 }
 
+// A file's row stands in an array of its own: the two lie in two sectors that are written apart, and with an array of
+// pairs one search would no longer serve directories and files.
 #[derive(Clone, Copy)]
 pub struct Tables {
     pub marks: [Mark; SECTOR],

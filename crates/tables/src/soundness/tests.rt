@@ -59,9 +59,7 @@ fn dead() -> [bool; 256] {
 // A volume that holds nothing.
 fn blank() -> Sectors {
     let mut map = [0; SECTOR];
-    for i in 0..0x0b {
-        map[i] = 0xff;
-    }
+    map[..0x0b].fill(0xff);
     map[DEAD] = 0xfe;
     Sectors {
         map,
@@ -80,10 +78,10 @@ fn sample() -> Sectors {
     s.name(Part::Dirs, 32, b"\x01a");
     s.name(Part::Files, 0, b"\xfff");
     s.name(Part::Files, 16, b"\x01f");
-    for i in 0..16 {
-        s.put(Part::Rows, i, 0x0b + i as u8);
-        s.put(Part::Map, 0x0b + i, 0xff);
+    for (place, sector) in s.rows.iter_mut().zip(0x0b..0x1b) {
+        *place = sector;
     }
+    s.map[0x0b..0x1b].fill(0xff);
     s.put(Part::Rows, 16, 0xff);
     s.put(Part::Map, 0xff, 0xff);
     s.put(Part::Rows, 32, 0x0b);

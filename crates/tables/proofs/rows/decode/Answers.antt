@@ -1,7 +1,10 @@
-use Rattle.std.proofs.Common.{refl}
+use Rattle.std.proofs.Common.{length, rules, ap, ◌∙◌}
+use borrow.Author.Tests.{tests}
+use Rattle.std.proofs.lemmas.List.{map-id}
 use Rattle.tables.specs.declared.types.Row.{Row}
-use Rattle.tables.proofs.Pieces.{reads}
+use Rattle.tables.proofs.Bytes.{parts-length}
+use Rattle.tables.proofs.Wholes.{mapped}
 use Rattle.tables.proofs.rows.decode.Goals as goal
 
-pub loop-i-init : goal.loop-i-init
-loop-i-init c = (refl, refl, reads (λ (r : Row). r.places) (λ bs. bs) 32 c.args.sector.now)
+pub returns : goal.returns
+returns c = mapped (λ (r : Row). r.places) (λ bs. bs) c.cut.result c.map.result c.map.ensures.items (ap length c.cut.ensures ∙ parts-length 32 c.args.sector.now) (λ p x y q k. search (rules, tests)) ∙ map-id c.cut.result ∙ c.cut.ensures

@@ -5,7 +5,7 @@ use Rattle.tables.specs.Views.{view}
 use Rattle.tables.specs.Plans.{there}
 use Rattle.tables.proofs.Changed.{still_sound}
 use Rattle.tables.proofs.Choosing.{handed_on}
-use Rattle.tables.proofs.Prunes.{known_sound, top_lives, prune_after}
+use Rattle.tables.proofs.Prunes.{top_lives, prune_after}
 use Rattle.tables.proofs.consistent.Consistent.prune.Goals as goal
 
 pub returns-in_err-top : goal.returns-in_err-top
@@ -15,7 +15,7 @@ pub pruned-tables-requires : goal.pruned-tables-requires
 pruned-tables-requires c =
     let k = c.args.self.now in
     let there_is = c.in_ok-top.ensures in
-    record { sound = known_sound k; lives = top_lives k c.args.start c.args.path.now c.in_ok-top.top there_is.0 there_is.1.0 }
+    top_lives k c.args.start c.args.path.now c.in_ok-top.top there_is.0 there_is.1.0
 
 pub invariant_of-result : goal.invariant_of-result
 invariant_of-result c =
