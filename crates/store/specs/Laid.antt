@@ -37,7 +37,7 @@ put_laid false n f g s old new l p q r = absurd (omega arith)
 
 -- no access is both refused and accepted, and an accepted one is to a sector of the image
 pub never_both : (f : Fault) → ◌≡◌ {A = Result (Unit {0}) Fault} (Err f) (Ok tt) → ⊥
-never_both f e = let z : ◌≡◌ {A = ℕ} 0 1 = cc in omega arith
+never_both f e = cc
 
 pub inside_accepted : (i : Image) (s : ℕ) → access i s ≡ Ok tt → s < length i
 inside_accepted i s h = go (cases_lt s (length i))

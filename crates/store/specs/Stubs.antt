@@ -46,8 +46,8 @@ module _ (n v : ℕ) (b : List ℕ) (d : ℕ) where
         where
           go : (x : Bool) → nat_lt s n ≡ x → (y : Bool) → (s == v) ≡ y → Ok tt ≡ checked x y → (s < n) × (s ≡ v)
           go true p true q r = (ltb-true s n p, eqb-true s v q)
-          go true p false q r = let z : ◌≡◌ {A = ℕ} 0 1 = cc in absurd (omega arith)
-          go false p y q r = let z : ◌≡◌ {A = ℕ} 0 1 = cc in absurd (omega arith)
+          go true p false q r = absurd cc
+          go false p y q r = absurd cc
 
       live : at s ≡ bytes b
       live = ap (λ x. cond x (bytes b) (dead s d)) (eq-eqb s v passed.1)

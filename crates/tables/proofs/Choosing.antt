@@ -21,11 +21,11 @@ front-passed [] ys h = refl
 front-passed (x ∷ xs) ys h = go x.refuses h (front-passed xs ys)
   where
     go : (b : Bool) → cond b (Some x.with) (picked xs) ≡ None → (picked xs ≡ None → picked (xs ++ ys) ≡ picked ys) → cond b (Some x.with) (picked (xs ++ ys)) ≡ picked ys
-    go true h ih = absurd (let z : ◌≡◌ {A = ℕ} 0 1 = cc in let w : ⊥ = omega arith in w)
+    go true h ih = absurd cc
     go false h ih = ih h
 
 pub front_stopped : (xs ys : List Check) (e : Refusal) → picked xs ≡ Some e → picked (xs ++ ys) ≡ Some e
-front_stopped [] ys e h = absurd (let z : ◌≡◌ {A = ℕ} 0 1 = cc in let w : ⊥ = omega arith in w)
+front_stopped [] ys e h = absurd cc
 front_stopped (x ∷ xs) ys e h = go x.refuses h (front_stopped xs ys e)
   where
     go : (b : Bool) → cond b (Some x.with) (picked xs) ≡ Some e → (picked xs ≡ Some e → picked (xs ++ ys) ≡ Some e) → cond b (Some x.with) (picked (xs ++ ys)) ≡ Some e
@@ -40,12 +40,12 @@ handed_on cs made r e by h = let p = err_from_is_err_and r by in subst (λ (x : 
 -- an option as a result ------------------------------------------------------------------------------------------
 
 pub ok_some : {A : Type 0} (o : Option A) (e : Refusal) (a : A) → ◌≡◌ {A = Result A Refusal} (Ok a) (ok_or o e) → Some a ≡ o
-ok_some None e a h = absurd (let z : ◌≡◌ {A = ℕ} 0 1 = cc in let w : ⊥ = omega arith in w)
+ok_some None e a h = absurd cc
 ok_some (Some b) e a h = let same : a ≡ b = cc in ap Some same
 
 pub err_none : {A : Type 0} (o : Option A) (e f : Refusal) → ◌≡◌ {A = Result A Refusal} (Err f) (ok_or o e) → (None ≡ o) × (e ≡ f)
 err_none None e f h = (refl, cc)
-err_none (Some b) e f h = absurd (let z : ◌≡◌ {A = ℕ} 0 1 = cc in let w : ⊥ = omega arith in w)
+err_none (Some b) e f h = absurd cc
 
 -- what is told of an option, where there is a value
 pub told_some : {A : Type 0} (o : Option A) (x : A) (P : Type 0) (Q : A → Type 0) → Some x ≡ o → MatchOption o P Q → Q x

@@ -1,11 +1,11 @@
 -- The sectors of a row, claimed one after another.
 use Rattle.std.proofs.Common.{◌≡◌, ℕ, ◌+◌, ◌<◌, ◌≤◌, Bool, true, false, not, ◌&&◌, ◌||◌, eqb, leb, ◌⊎◌, List, [], ◌∷◌, ◌++◌, length, get_or, drop, set, sym, refl, ap, ◌∙◌, ap₂, inl, inr, arith}
+use Rattle.std.specs.Cmp.{both_ways}
 use mathlib.Core.Bool.{and_assoc, and-false}
 use Rattle.std.proofs.lemmas.List.{drop_more, get_or_past, get_or-set_other, get_or-set_same, length-set}
 use Rattle.std.proofs.lemmas.Bool.{cases_eq, cases_lt, eq-eqb, eqb-true, ne_eqb}
 use Rattle.model.specs.Sizes.{blank}
 use Rattle.model.specs.Tables.{all, used, data_sector, member, distinct, proper_row}
-use Rattle.model.proofs.Common.Tests.{tests_alike}
 use Rattle.model.proofs.Tables.Places.{used-at}
 use Rattle.tables.specs.Rules.{told, filled_up, unclaimed}
 use Rattle.tables.proofs.Bools.{or_swap, and_cross, neither}
@@ -15,7 +15,7 @@ abbrev also : ℕ → (ℕ → Bool) → ℕ → Bool
 also s c x = eqb x s || c x
 
 eqb_swap : (a b : ℕ) → eqb a b ≡ eqb b a
-eqb_swap a b = tests_alike (eqb a b) (eqb b a) (λ e. eq-eqb b a (sym (eqb-true a b e))) (λ e. eq-eqb a b (sym (eqb-true b a e)))
+eqb_swap a b = both_ways (eqb a b) (eqb b a) (λ e. eq-eqb b a (sym (eqb-true a b e))) (λ e. eq-eqb a b (sym (eqb-true b a e)))
 
 all_apart : (s : ℕ) (c : ℕ → Bool) (ss : List ℕ) → all (λ x. not (also s c x)) ss ≡ (not (member s ss) && all (λ x. not (c x)) ss)
 all_apart s c [] = refl

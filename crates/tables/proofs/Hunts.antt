@@ -45,7 +45,7 @@ module _ (bs : List ℕ) where
       go false ih = ih ∙ told-raised s n (first is_zero (take n (drop (suc s) bs)))
 
 first-inside : {A : Type 0} (f : A → Bool) (xs : List A) (n : ℕ) → first f xs ≡ Some n → n < length xs
-first-inside f [] n e = let z : ◌≡◌ {A = ℕ} 0 1 = cc in absurd (let w : ⊥ = omega arith in w)
+first-inside f [] n e = absurd cc
 first-inside f (x ∷ xs) n e = (first_some f x (x ∷ xs) n e).0
 
 -- as the code holds the map -----------------------------------------------------------------------------------

@@ -1,7 +1,8 @@
 -- The least name of a directory, found in one pass over its entries, and the checks that come before.
 use Rattle.std.proofs.Common.{◌≡◌, ℕ, suc, map, ◌+◌, Bool, true, false, cond, not, ◌&&◌, eqb, ◌⊎◌, List, [], ◌∷◌, ◌++◌, length, Some, None, Option, sym, refl, ap, ◌∙◌, subst, inl, inr, add-one}
+use Rattle.std.proofs.lemmas.Option.{none-some}
 use Rattle.std.specs.List.{filter, fold, range_with_len, zip}
-use Rattle.std.proofs.lemmas.Bool.{both_ways}
+use Rattle.std.proofs.lemmas.Bool.{both_ways, false_from_ne_true}
 use Rattle.model.specs.Answers.{Listed, children, lesser, least_after, listing}
 use Rattle.model.specs.Names.{Name, before}
 use Rattle.model.specs.Tables.{Tables, live, trimmed}
@@ -11,7 +12,6 @@ use Rattle.model.specs.Volume.{is_dir, number_of}
 use Rattle.model.specs.declared.types.Kind.{Kind}
 use Rattle.model.specs.declared.types.Refusal.{Refusal}
 use Rattle.model.specs.declared.types.Refusal.TheVariants.{Misspelt as misspelt, Start as start, Lost as lost}
-use Rattle.model.proofs.Common.Tests.{no_some, refute}
 use Rattle.model.proofs.Naming.Orders.{before_trans, before_tri}
 use Rattle.tables.specs.Views.{entry_view, entries_view}
 use Rattle.tables.specs.declared.types.Entry.{Entry}
@@ -20,7 +20,7 @@ use Rattle.tables.specs.Plans.{lesser_of}
 -- the lesser of several ----------------------------------------------------------------------------------
 
 never_before : (n m o : Name) → before n m ≡ false → before m o ≡ false → before n o ≡ false
-never_before n m o h k = refute (before n o) (λ e. go e (before_tri n m))
+never_before n m o h k = false_from_ne_true (before n o) (λ e. go e (before_tri n m))
   where
     go : before n o ≡ true → (n ≡ m) ⊎ ((before n m ≡ true) ⊎ (before m n ≡ true)) → ⊥
     go e (inl same) = both_ways (before m o) k (subst (λ x. before x o ≡ true) same e)
@@ -105,13 +105,13 @@ abbrev led : Bool → Bool → Bool → List Check
 led s b c = check (not s) misspelt ∷ check (not b) start ∷ check (not c) lost ∷ []
 
 some_none : (r : Refusal) → ◌≡◌ {A = Option Refusal} (Some r) None → ⊥
-some_none r e = no_some r (sym e)
+some_none r e = none-some r (sym e)
 
 pub next_refused : (s b : Bool) (o : Option (Kind × ℕ)) (r : Refusal) → picked (led s b (is_some o)) ≡ Some r → picked (led s b (is_dir o)) ≡ Some r
 next_refused false b o r h = h
 next_refused true false o r h = h
 next_refused true true None r h = h
-next_refused true true (Some x) r h = absurd (no_some r h)
+next_refused true true (Some x) r h = absurd (none-some r h)
 
 -- an item of the kind k was found
 pub next-found : (s b : Bool) (o : Option (Kind × ℕ)) (x : Kind × ℕ) (k : Kind) → picked (led s b (is_some o)) ≡ None → o ≡ Some x → x.0 ≡ k → picked (led s b (is_dir o)) ≡ picked (check (not (is_dir (Some (k, x.1)))) lost ∷ [])

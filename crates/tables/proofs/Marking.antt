@@ -2,12 +2,12 @@
 use Rattle.std.proofs.Common.{◌≡◌, ℕ, zero, suc, ◌+◌, ◌<◌, ◌≤◌, Bool, true, false, cond, not, ◌&&◌, ◌||◌, eqb, ◌⊎◌, List, length, get_or, set, sym, refl, ap, ◌∙◌, subst, ap₂, inl, inr, arith}
 use mathlib.Core.Bool.{or_assoc}
 use Rattle.std.proofs.lemmas.List.{ext_get_or, get_or-map, get_or_past, get_or-set_other, get_or-set_same, length-set}
-use Rattle.std.proofs.lemmas.Bool.{both_ways, cases_eq, cases_lt, eq-eqb, lt-ltb, ne_eqb, or_from, or_left, or_right}
+use Rattle.std.proofs.lemmas.Bool.{both_ways, cases_eq, cases_lt, eq-eqb, lt-ltb, ne_eqb, or_from, or_left, or_right, false_from_ne_true}
 use Rattle.model.specs.Image.{Image}
 use Rattle.model.specs.Sound.{Live, Sound}
 use Rattle.model.specs.Tables.{Entry as ModelEntry, no_entry, live, live_dir}
 use Rattle.model.proofs.Common.Lists.{length_from, get_or_from}
-use Rattle.model.proofs.Common.Tests.{refute, each_from, each_holds}
+use Rattle.model.proofs.Common.Tests.{each_from, each_holds}
 use Rattle.model.proofs.Tables.Rules.{live_dir-live}
 use Rattle.tables.specs.Views.{entry_view, entries_view, view}
 use Rattle.tables.specs.declared.consistent.Consistent.{Consistent}
@@ -46,7 +46,7 @@ with-marks ds top ms n d = go (cases_lt d (length ms))
     go (inl l) = get_or_from 0 (length ms) (λ d. is_marked ms d || beneath ds top d) d d false l (omega arith)
     go (inr l) =
         get_or_past (with_subtree ds top ms) d false (subst (λ m. m ≤ d) (sym (with-length ds top ms)) l)
-        ∙ sym (or_from (is_marked ms d) (beneath ds top d) (get_or_past ms d false l) (refute (beneath ds top d) (λ h. past (length ms) d 0 l n (beneath_out ds top d h).0.0)))
+        ∙ sym (or_from (is_marked ms d) (beneath ds top d) (get_or_past ms d false l) (false_from_ne_true (beneath ds top d) (λ h. past (length ms) d 0 l n (beneath_out ds top d h).0.0)))
 
 -- no mark in the subtree, place by place
 untouched-at : (ds : List ModelEntry) (top : ℕ) (ms : List Bool) → untouched ds top ms ≡ true → (d : ℕ) → beneath ds top d ≡ true → is_marked ms d ≡ false
@@ -92,7 +92,7 @@ module _ (old new : List Bool) (adds : (d : ℕ) → is_marked old d ≡ true �
   gaps_fewer (suc n) = let a = at_place n in let b = gaps_fewer n in omega arith
 
   gaps_less : (x : ℕ) → is_marked old x ≡ false → is_marked new x ≡ true → (n : ℕ) → x < n → gaps n new < gaps n old
-  gaps_less x e f zero l = absurd (let w : ⊥ = omega arith in w)
+  gaps_less x e f zero l = absurd (omega arith)
   gaps_less x e f (suc n) l = go (cases_eq x n) (gaps_less x e f n)
     where
       here : (a b c d : ℕ) → a ≡ 0 → b ≡ 1 → c ≤ d → a + c < b + d

@@ -10,12 +10,12 @@ use Rattle.tables.specs.declared.types.Tables.{Tables}
 use Rattle.tables.specs.Views.{entry_view, entries_view, rows_view, view}
 
 named : (es : List Entry) (i : ℕ) → i < length es → length (get_or (entries_view es) i no_entry).name ≡ 15
-named [] i l = absurd (let w : ⊥ = omega arith in w)
+named [] i l = absurd (omega arith)
 named (e ∷ es) zero l = e.sized
 named (e ∷ es) (suc i) l = named es i (omega arith)
 
 long : (rs : List Row) (i : ℕ) → i < length rs → length (get_or (rows_view rs) i []) ≡ 16
-long [] i l = absurd (let w : ⊥ = omega arith in w)
+long [] i l = absurd (omega arith)
 long (r ∷ rs) zero l = r.sized
 long (r ∷ rs) (suc i) l = long rs i (omega arith)
 

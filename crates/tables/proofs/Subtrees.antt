@@ -1,12 +1,12 @@
 -- The subtree of a directory: the directory, and the subtrees of its live children, which have nothing in common.
 use Rattle.std.proofs.Common.{◌≡◌, ℕ, zero, suc, ◌<◌, ◌≤◌, Bool, true, false, not, ◌&&◌, ◌||◌, eqb, ltb, ◌⊎◌, List, [], ◌∷◌, ◌++◌, get_or, sym, refl, ap, ◌∙◌, subst, inl, inr, arith}
-use Rattle.std.proofs.lemmas.Bool.{and_from, and_parts, both_ways, cases_eq, eq-eqb, eqb-true, false≢true, lt-ltb, ne_eqb, not_from_false, or_cases, or_left, or_right}
+use Rattle.std.specs.Cmp.{both_ways as same_tests}
+use Rattle.std.proofs.lemmas.Bool.{and_from, and_parts, both_ways, cases_eq, eq-eqb, eqb-true, false≢true, lt-ltb, ne_eqb, not_from_false, or_cases, or_left, or_right, false_from_ne_true}
 use Rattle.model.specs.Image.{Image}
 use Rattle.model.specs.Names.{Name, Path, same_name, within}
 use Rattle.model.specs.Sound.{Live, Sound}
 use Rattle.model.specs.Tables.{Entry, Tables, root, no_entry, live, live_dir, trimmed, climbs}
 use Rattle.model.specs.Volume.{climb, under}
-use Rattle.model.proofs.Common.Tests.{refute, tests_alike}
 use Rattle.model.proofs.Naming.Same.{same_name_true}
 use Rattle.model.proofs.Tables.Climbs.{up, Step, climbs_cases, climbs_zero, climb-live, one_place}
 use Rattle.model.proofs.Tables.Rules.{live_dir-live}
@@ -136,7 +136,7 @@ below_out ds dir (suc n) d h = go (below_out ds dir n d) (or_cases (below ds dir
     go ih (inr a) = let b = and_parts (is_kid ds dir n) (beneath ds n d) a in (n, omega arith, kid_out ds dir n b.0, b.1)
 
 below_in : (ds : List Entry) (dir n d k : ℕ) → k < n → Kid ds dir k → beneath ds k d ≡ true → below ds dir n d ≡ true
-below_in ds dir zero d k l c h = absurd (let w : ⊥ = omega arith in w)
+below_in ds dir zero d k l c h = absurd (omega arith)
 below_in ds dir (suc n) d k l c h = go (cases_eq k n) (below_in ds dir n d k)
   where
     go : (k ≡ n) ⊎ (k ≡ n → ⊥) → (k < n → Kid ds dir k → beneath ds k d ≡ true → below ds dir n d ≡ true) → below ds dir (suc n) d ≡ true
@@ -156,7 +156,7 @@ module _ (i : Image) (t : Tables) (s : Sound i t) (dir : ℕ) (lives : Live t.di
 
   -- is beneath no earlier child
   pub not-before : (k d : ℕ) → Kid t.dirs dir k → beneath t.dirs k d ≡ true → below t.dirs dir k d ≡ false
-  not-before k d c h = refute (below t.dirs dir k d) (λ g.
+  not-before k d c h = false_from_ne_true (below t.dirs dir k d) (λ g.
       let q = below_out t.dirs dir k d g in
       let b = beneath_out t.dirs k d h in
       let e = one_kid i t s dir q.0 k d q.2 c b.0 (beneath_out t.dirs q.0 d q.3).1 b.1 in
@@ -167,7 +167,7 @@ module _ (i : Image) (t : Tables) (s : Sound i t) (dir : ℕ) (lives : Live t.di
 
   -- the directory and the subtrees of all children make up the subtree
   pub made_up : (n : ℕ) → 32 ≤ n → (d : ℕ) → (eqb d dir || below t.dirs dir n d) ≡ beneath t.dirs dir d
-  made_up n m d = tests_alike (eqb d dir || below t.dirs dir n d) (beneath t.dirs dir d) (λ h. there (or_cases (eqb d dir) (below t.dirs dir n d) h)) back
+  made_up n m d = same_tests (eqb d dir || below t.dirs dir n d) (beneath t.dirs dir d) (λ h. there (or_cases (eqb d dir) (below t.dirs dir n d) h)) back
     where
       there : (eqb d dir ≡ true) ⊎ (below t.dirs dir n d ≡ true) → beneath t.dirs dir d ≡ true
       there (inl e) = subst (λ x. beneath t.dirs dir x ≡ true) (sym (eqb-true d dir e)) top_beneath

@@ -29,7 +29,7 @@ readable_inside i s b h = go (ltb s (length i)) refl h
   where
     go : (c : Bool) → ltb s (length i) ≡ c → cond c (seen (get_or i s (dead 0 0))) (Err (past_end_at s)) ≡ Ok b → s < length i
     go true q h = ltb-true s (length i) q
-    go false q h = absurd (let z : ◌≡◌ {A = ℕ} 0 1 = cc in let w : ⊥ = omega arith in w)
+    go false q h = absurd cc
 
 pub ready : (i : Image) (t : Tables) → whole i ≡ true → Kept (on (Some t) i) → Ready i t
 ready i t w k =

@@ -14,8 +14,8 @@ use Rattle.volume.specs.Blank.{Bare}
 
 -- an access that is refused is of a sector that is not alive
 refuted : (l : Result (List ℕ) Fault) (r : Result (Unit {0}) Fault) (f : Fault) → is_ok l ≡ true → r ≡ done_or_fault l → r ≡ Err f → ⊥
-refuted (Ok b) r f a e h = let z : ◌≡◌ {A = ℕ} 0 1 = cc in omega arith
-refuted (Err g) r f a e h = let z : ◌≡◌ {A = ℕ} 0 1 = cc in omega arith
+refuted (Ok b) r f a e h = cc
+refuted (Err g) r f a e h = cc
 
 pub never : {A : Type 0} (i j : Image) (s : ℕ) (r : Result (Unit {0}) Fault) (f : Fault) → j ≡ i → is_ok (look i s) ≡ true → r ≡ access j s → r ≡ Err f → A
 never i j s r f same alive e h = absurd (refuted (look i s) r f alive (e ∙ ap (λ (x : Image). access x s) same) h)
@@ -66,7 +66,7 @@ bare_is i j w f e =
     subst Bare (sym e) (record { tables = r.0; held = r.1.loaded; sound = r.1.facts; empty = format_bare i w f r.0 r.1.loaded })
 
 pub refused_leaves : (j : Image) (e : Refusal) (r : Result (Unit {0}) Refusal) → r ≡ Err e → r ≡ Ok tt → Bare j
-refused_leaves j e r q h = absurd (let z : ◌≡◌ {A = ℕ} 0 1 = cc in let w : ⊥ = omega arith in w)
+refused_leaves j e r q h = absurd cc
 
 pub answer_refused : (i : Image) (e : Refusal) (r : Result (Unit {0}) Refusal) → r ≡ Err e → format_refusal i ≡ Some e → r ≡ format_answer i
 answer_refused i e r q h = q ∙ sym (ap (λ (o : Option Refusal). answer o tt) h)

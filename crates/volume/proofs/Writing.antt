@@ -16,20 +16,20 @@ step_ok w ws i h = go (look i w.at) h
   where
     go : (l : Result (List ℕ) Fault) → done_or_fault l ≡ Ok tt → go_on l (writes ws (put i w.at w.new)) i ≡ writes ws (put i w.at w.new)
     go (Ok b) h = refl
-    go (Err f) h = absurd (let z : ◌≡◌ {A = ℕ} 0 1 = cc in let w : ⊥ = omega arith in w)
+    go (Err f) h = absurd cc
 
 pub step-fault : (w : Write) (ws : List Write) (i : Image) (f : Fault) → access i w.at ≡ Err f → writes (w ∷ ws) i ≡ faulted i f
 step-fault w ws i f h = go (look i w.at) h
   where
     go : (l : Result (List ℕ) Fault) → done_or_fault l ≡ Err f → go_on l (writes ws (put i w.at w.new)) i ≡ faulted i f
-    go (Ok b) h = absurd (let z : ◌≡◌ {A = ℕ} 0 1 = cc in let w : ⊥ = omega arith in w)
+    go (Ok b) h = absurd cc
     go (Err g) h = let same : g ≡ f = cc in ap (faulted i) same
 
 pub put_refused : (i : Image) (s : ℕ) (b : List ℕ) (f : Fault) → access i s ≡ Err f → put i s b ≡ i
 put_refused i s b f h = go (look i s) h
   where
     go : (l : Result (List ℕ) Fault) → done_or_fault l ≡ Err f → stored l i s b ≡ i
-    go (Ok c) h = absurd (let z : ◌≡◌ {A = ℕ} 0 1 = cc in let w : ⊥ = omega arith in w)
+    go (Ok c) h = absurd cc
     go (Err g) h = refl
 
 -- the writes that are left, from the image at hand, lead where all of them led from the first
@@ -97,10 +97,10 @@ went_on (v ∷ vs) ws i h = go (look i v.at) h (went_on vs ws (put i v.at v.new)
   where
     go : (l : Result (List ℕ) Fault) → (go_on l (writes vs (put i v.at v.new)) i).fault ≡ None → ((writes vs (put i v.at v.new)).fault ≡ None → writes (vs ++ ws) (put i v.at v.new) ≡ writes ws (writes vs (put i v.at v.new)).image) → go_on l (writes (vs ++ ws) (put i v.at v.new)) i ≡ writes ws (go_on l (writes vs (put i v.at v.new)) i).image
     go (Ok b) h ih = ih h
-    go (Err f) h ih = absurd (let z : ◌≡◌ {A = ℕ} 0 1 = cc in let w : ⊥ = omega arith in w)
+    go (Err f) h ih = absurd cc
 
 stopped : (vs ws : List Write) (i : Image) (f : Fault) → (writes vs i).fault ≡ Some f → writes (vs ++ ws) i ≡ writes vs i
-stopped [] ws i f h = absurd (let z : ◌≡◌ {A = ℕ} 0 1 = cc in let w : ⊥ = omega arith in w)
+stopped [] ws i f h = absurd cc
 stopped (v ∷ vs) ws i f h = go (look i v.at) h (stopped vs ws (put i v.at v.new) f)
   where
     go : (l : Result (List ℕ) Fault) → (go_on l (writes vs (put i v.at v.new)) i).fault ≡ Some f → ((writes vs (put i v.at v.new)).fault ≡ Some f → writes (vs ++ ws) (put i v.at v.new) ≡ writes vs (put i v.at v.new)) → go_on l (writes (vs ++ ws) (put i v.at v.new)) i ≡ go_on l (writes vs (put i v.at v.new)) i
@@ -109,8 +109,8 @@ stopped (v ∷ vs) ws i f h = go (look i v.at) h (stopped vs ws (put i v.at v.ne
 
 -- whether a fault was met, by what was answered
 pub fault_of : (o : Option Fault) (r : Result (Unit {0}) Refusal) → r ≡ unless_fault o → (r ≡ Ok tt → o ≡ None) × ((e : Refusal) → r ≡ Err e → (f : Fault) × (o ≡ Some f) × (e ≡ dead f))
-fault_of None r h = (λ q. refl, λ e q. absurd (let z : ◌≡◌ {A = ℕ} 0 1 = cc in let w : ⊥ = omega arith in w))
-fault_of (Some f) r h = (λ q. absurd (let z : ◌≡◌ {A = ℕ} 0 1 = cc in let w : ⊥ = omega arith in w), λ e q. (f, refl, let same : e ≡ dead f = cc in same))
+fault_of None r h = (λ q. refl, λ e q. absurd cc)
+fault_of (Some f) r h = (λ q. absurd cc, λ e q. (f, refl, let same : e ≡ dead f = cc in same))
 
 pub then_wrote : (i : Image) (vs ws : List Write) (q r : Result (Unit {0}) Refusal) (j k : Image) → Wrote i vs q j → q ≡ Ok tt → Wrote j ws r k → Wrote i (vs ++ ws) r k
 then_wrote i vs ws q r j k a ok b =

@@ -11,7 +11,7 @@ use Rattle.tables.proofs.paths.is_within.Goals as goal
 use borrow.Author.Tests.{tests}
 
 not_none : {A : Type 0} (a : A) → ◌≡◌ {A = Option A} (Some a) None → ⊥
-not_none a e = let z : ◌≡◌ {A = ℕ} 0 1 = cc in omega arith
+not_none a e = cc
 
 -- the first byte of what is left decides, if there is one
 ends_first : (bs : List ℕ) (o : Option (Bor ℕ)) (r : Bool) → option_copied o ≡ slice_get bs 0 → MatchOption o (IsTrue r) (λ y. r ≡ is_slash y.now) → r ≡ ends-name bs
