@@ -1,4 +1,5 @@
 pub mod Rules
+pub mod Drawing
 pub mod Views
 pub mod Plans
 pub mod Subtrees

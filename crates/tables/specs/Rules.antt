@@ -22,6 +22,10 @@ unclaimed c ss = distinct ss && all (λ s. not (c s)) ss
 abbrev pub Claimed : Tables → List Bool → Type 0
 Claimed t c = (s : ℕ) → s < 256 → told c s ≡ member s (live_places t.files t.rows)
 
+-- the mark of a sector that no file has, as an array tells which are dead
+abbrev pub unused_mark : List Bool → ℕ → ℕ
+unused_mark dead s = cond (nat_lt s first_data) mark_used (cond (nat_lt last_data s) mark_free (cond (told dead s) mark_dead mark_free))
+
 -- the mark of a sector, as the two arrays tell
 abbrev pub due : List Bool → List Bool → ℕ → ℕ
 due dead claimed s = cond (nat_lt s first_data) mark_used (cond (nat_lt last_data s) mark_free (cond (told dead s) mark_dead (cond (told claimed s) mark_used mark_free)))

@@ -59,16 +59,11 @@ impl Claims {
     fn due_mark(&self, sector: usize) -> Mark
         ensures { result.0 ≡ due self.now.dead self.now.claimed sector }
     {
-        if sector < FIRST_DATA as usize {
-            Mark::USED
-        } else if sector > LAST_DATA as usize {
-            Mark::FREE
-        } else if self.dead[sector] {
-            Mark::DEAD
-        } else if self.claimed[sector] {
+        let unused = Mark::unused(sector, &self.dead);
+        if unused == Mark::FREE && sector <= LAST_DATA as usize && self.claimed[sector] {
             Mark::USED
         } else {
-            Mark::FREE
+            unused
         }
     }
 }

@@ -1,10 +1,13 @@
 // The bytes of the allocation map, and the sector that holds them.
-ghost use Rattle.std.specs.Prelude.{◌≡◌, ◌==◌};
+ghost use Rattle.std.specs.Prelude.{◌≡◌, ◌==◌, Some};
+ghost use Rattle.tables.specs.Rules.{unused_mark};
+ghost use Rattle.tables.specs.Drawing.{mark_text};
 ghost use Rattle.tables.specs.Views.{marks_view};
 
-use crate::sizes::SECTOR;
+use crate::sizes::{FIRST_DATA, LAST_DATA, SECTOR};
 use crate::slots::Slot;
 use crate::types::Mark;
+use std::fmt;
 
 impl Mark {
     pub const FREE: Mark = Mark(0x00);
@@ -12,6 +15,19 @@ impl Mark {
     pub const USED: Mark = Mark(0xff);
 
     pub const DEAD: Mark = Mark(0xfe);
+
+    // The mark of a sector that no file has: reserved, dead or free. `dead` tells of the sectors 0x00 to 0xFF.
+    pub fn unused(sector: usize, dead: &[bool; 256]) -> Mark
+        ensures { result.0 ≡ unused_mark dead.now sector }
+    {
+        if sector < FIRST_DATA as usize {
+            Mark::USED
+        } else if sector <= LAST_DATA as usize && dead[sector] {
+            Mark::DEAD
+        } else {
+            Mark::FREE
+        }
+    }
 }
 
 impl Slot for Mark {
@@ -19,6 +35,20 @@ impl Slot for Mark {
 
     fn is_free(&self) -> bool {
         self.0 == Mark::FREE.0
+    }
+}
+
+// How the map is drawn: free, used or reserved, dead, and any byte that is no mark.
+impl fmt::Display for Mark {
+    ghost output = { λ mark. Some (mark_text mark.0) };
+
+    fn fmt<W: fmt::Write>(&self, f: &mut fmt::Formatter<W>) -> fmt::Result {
+        f.write_str(match *self {
+            Self::FREE => ".",
+            Self::USED => "#",
+            Self::DEAD => "x",
+            _ => "?",
+        })
     }
 }
 
