@@ -4,7 +4,8 @@ use Rattle.std.proofs.lemmas.List.{get_or-set_same, get_or-set_other}
 use Rattle.std.proofs.lemmas.Bool.{eqb-true, eqb-false, and_from, le-leb, ltb-false}
 use Rattle.model.specs.Image.{Image, look, is_ok, from_to}
 use Rattle.model.specs.Volume.{blank_mark}
-use Rattle.volume.specs.Blank.{Tells, blank_byte}
+use Rattle.tables.specs.Rules.{unused_mark}
+use Rattle.volume.specs.Blank.{Tells}
 
 -- the bytes below n are those of f
 abbrev pub Below : List ℕ → (ℕ → ℕ) → ℕ → Type 0
@@ -30,7 +31,7 @@ pub whole-map : (f : ℕ → ℕ) (bs : List ℕ) (n : ℕ) → length bs ≡ 51
 whole-map f bs n l m h = tabled 0 512 f bs l (λ k b. h k (omega arith) ∙ (let q : k ≡ 0 + k = omega arith in ap f q))
 
 -- an array that tells which data sectors are dead gives the map of the image
-blank-same : (dead : List Bool) (i : Image) → Tells dead i → (s : ℕ) → blank_byte dead s ≡ blank_mark i s
+blank-same : (dead : List Bool) (i : Image) → Tells dead i → (s : ℕ) → unused_mark dead s ≡ blank_mark i s
 blank-same dead i tells s = go (ltb s 0x0b) refl (ltb 0xff s) refl
   where
     turned : (b : Bool) → ◌≡◌ {A = ℕ} (cond (not b) 0xfe 0) (cond b 0 0xfe)
@@ -46,5 +47,5 @@ table_same : (a n : ℕ) (f g : ℕ → ℕ) → ((s : ℕ) → f s ≡ g s) →
 table_same a zero f g h = refl
 table_same a (suc n) f g h = ap₂ ◌∷◌ (h a) (table_same (suc a) n f g h)
 
-pub blank_maps : (dead : List Bool) (i : Image) → Tells dead i → from_to 0 512 (blank_byte dead) ≡ from_to 0 512 (blank_mark i)
-blank_maps dead i tells = table_same 0 512 (blank_byte dead) (blank_mark i) (blank-same dead i tells)
+pub blank_maps : (dead : List Bool) (i : Image) → Tells dead i → from_to 0 512 (unused_mark dead) ≡ from_to 0 512 (blank_mark i)
+blank_maps dead i tells = table_same 0 512 (unused_mark dead) (blank_mark i) (blank-same dead i tells)

@@ -1,4 +1,4 @@
--- Which data sectors are dead, as an array tells, the map of a volume with nothing used, and what a new volume holds.
+-- Which data sectors are dead, as an array tells, and what a new volume holds.
 use Rattle.std.specs.Prelude.{◌≡◌, ℕ, Bool, true, cond, not, List, Ok, nat_lt, slice_index_or}
 use Rattle.model.specs.Sizes.{first_data, last_data, mark_used, mark_free, mark_dead}
 use Rattle.model.specs.Image.{Image}
@@ -10,10 +10,6 @@ use Rattle.model.specs.Volume.{tree_of}
 -- the array tells of each data sector whether it is dead
 abbrev pub Tells : List Bool → Image → Type 0
 Tells dead i = (s : ℕ) → data_sector s ≡ true → slice_index_or dead s true ≡ not (alive i s)
-
--- the map byte of a sector that no file has
-abbrev pub blank_byte : List Bool → ℕ → ℕ
-blank_byte dead s = cond (nat_lt s first_data) mark_used (cond (nat_lt last_data s) mark_free (cond (slice_index_or dead s true) mark_dead mark_free))
 
 -- the image holds sound tables, and their tree is the bare root
 pub record Bare (i : Image) : Type 0 where

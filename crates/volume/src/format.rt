@@ -1,14 +1,15 @@
 // Making a volume on a store.
-ghost use Rattle.std.specs.Prelude.{◌≡◌, true, cond, Ok};
+ghost use Rattle.std.specs.Prelude.{◌≡◌, Ok};
 ghost use Rattle.model.specs.Image.{from_to};
 ghost use Rattle.model.specs.Volume.{after_format};
 ghost use Rattle.model.specs.Answers.{format_answer};
-ghost use Rattle.volume.specs.Blank.{blank_byte, Bare};
+ghost use Rattle.tables.specs.Rules.{unused_mark};
+ghost use Rattle.volume.specs.Blank.{Bare};
 
 use crate::sectors::{DIRS, FILES, MAP, ROWS, dead_sectors, load_checked};
 use model::types::Refusal;
 use store::Store;
-use tables::sizes::{FIRST_DATA, LAST_DATA, SECTOR};
+use tables::sizes::SECTOR;
 use tables::types::Mark;
 
 // A table with nothing in it.
@@ -31,26 +32,11 @@ pub fn format<S: Store>(store: &mut S) -> Result<(), Refusal>
 
 // The map with nothing used.
 fn blank_map(dead: &[bool; 256]) -> [u8; SECTOR]
-    ensures { result ≡ from_to 0 512 (blank_byte dead.now) }
+    ensures { result ≡ from_to 0 512 (unused_mark dead.now) }
 {
     let mut map = BLANK;
-    for (s, byte) in map.iter_mut().enumerate() {
-        *byte = blank_byte(dead, s).0;
+    for (sector, byte) in map.iter_mut().enumerate() {
+        *byte = Mark::unused(sector, dead).0;
     }
     map
-}
-
-// The mark of a sector that no file has: reserved, dead or free.
-fn blank_byte(dead: &[bool; 256], sector: usize) -> Mark
-    ensures { result.0 ≡ blank_byte dead.now sector }
-{
-    if sector < usize::from(FIRST_DATA) {
-        Mark::USED
-    } else if sector > usize::from(LAST_DATA) {
-        Mark::FREE
-    } else if dead[sector] {
-        Mark::DEAD
-    } else {
-        Mark::FREE
-    }
 }

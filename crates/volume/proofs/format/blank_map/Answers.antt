@@ -1,6 +1,6 @@
-use Rattle.volume.specs.Blank.{blank_byte}
+use Rattle.tables.specs.Rules.{unused_mark}
 use Rattle.volume.proofs.Blanks.{whole-map}
 use Rattle.volume.proofs.format.blank_map.Goals as goal
 
 pub returns : goal.returns
-returns c = whole-map (blank_byte c.args.dead.now) c.loop-s.byte-items c.loop-s.s c.loop-s.invariant.0 c.loop-s-test.false c.loop-s.invariant.1
+returns c = whole-map (unused_mark c.args.dead.now) c.loop-sector.byte-items c.loop-sector.sector c.loop-sector.invariant.0 c.loop-sector-test.false c.loop-sector.invariant.1
