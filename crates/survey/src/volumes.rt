@@ -4,6 +4,7 @@ use model::types::Refusal;
 use store::flat::Flat;
 use store::spares::Spares;
 use store::{SECTOR, Store};
+use tables::types::Mark;
 use volume::format::format;
 use volume::opening::inspect;
 use volume::types::Volume;
@@ -112,18 +113,9 @@ fn draw<S: Store>(rt: &HostRuntime, volume: &Volume<S>) -> anyhow::Result<()> {
     for row in map.chunks(16).take(16) {
         print!(rt; "      ")?;
         for mark in row {
-            print!(rt; "{}", letter(*mark))?;
+            print!(rt; "{}", Mark(*mark))?;
         }
         println!(rt; "")?;
     }
     Ok(())
-}
-
-fn letter(mark: u8) -> char {
-    match mark {
-        0x00 => '.',
-        0xff => '#',
-        0xfe => 'x',
-        _ => '?',
-    }
 }
