@@ -1,13 +1,15 @@
 -- Whole sectors in a buffer, and a write to one stretch: what stands there after it, and that every other stays.
-use Rattle.std.specs.Prelude.{◌≡◌, ℕ, ◌+◌, ◌-◌, ◌*◌, ◌/◌, ◌%◌, ◌<◌, ◌≤◌, true, ◌⊎◌, List, ◌++◌, length, take, drop, vec_items, Vec, ◌==◌, ◌≢◌, nat_le}
-use Rattle.std.proofs.Common.{sym, ap, subst, ◌∙◌, inl, inr, arith}
+use Rattle.std.specs.Prelude.{◌≡◌, ℕ, ◌+◌, ◌-◌, ◌*◌, ◌/◌, ◌%◌, ◌<◌, ◌≤◌, true, ◌⊎◌, List, ◌++◌, length, Ok, take, drop, vec_items, Vec, ◌==◌, ◌≢◌, nat_le}
+use Rattle.std.proofs.Common.{sym, ap, ap₂, subst, ◌∙◌, inl, inr, arith}
 use borrow.Rule.Slice.PartMut.{put_mid, post_of}
 use Rattle.std.proofs.lemmas.List.{length-take-le, length-drop, take_at, take-take, take-append-le, drop_at, drop-take, drop-append-le, with_items_is}
 use Rattle.std.proofs.lemmas.Slice.{drop-put_mid}
 use Rattle.std.proofs.lemmas.Bool.{cases_order, and_parts, leb-true}
 use Rattle.std.specs.Vec.{with_items}
 use Rattle.std.specs.declared.alloc.Global.{Global}
+use Rattle.model.specs.Image.{Image, look, filled}
 use Rattle.store.specs.Stores.{stretch, whole_sectors}
+use Rattle.store.specs.Tabled.{filled_at}
 
 -- a buffer that fits has n stretches at most, and each is whole
 pub count_most : (n : ℕ) (buffer : List ℕ) → whole_sectors n buffer ≡ true → length buffer / 512 ≤ n
@@ -22,6 +24,10 @@ room_for m s l = omega arith
 -- the same of a slice of the buffer's bytes, at a place of the same value
 pub room_at : (was buffer : List ℕ) (k s : ℕ) → was ≡ buffer → k ≡ s → 512 * s + 512 ≤ length buffer → 512 * k + 512 ≤ length was
 room_at was buffer k s e q l = subst (λ xs. 512 * k + 512 ≤ length xs) (sym e) (subst (λ n. 512 * n + 512 ≤ length buffer) (sym q) l)
+
+-- what is copied out of a stretch is what stands at the sector that lies there
+pub filled_from : (i : Image) (s k j : ℕ) (old buffer was out : List ℕ) → look i s ≡ Ok (stretch buffer k) → was ≡ buffer → j ≡ k → out ≡ stretch was j → out ≡ filled i s old
+filled_from i s k j old buffer was out seen e q o = o ∙ (ap₂ stretch e q ∙ sym (filled_at i s old (Ok (stretch buffer k)) seen))
 
 pub length_stretch : (buffer : List ℕ) (s : ℕ) → 512 * s + 512 ≤ length buffer → length (stretch buffer s) ≡ 512
 length_stretch buffer s l =

@@ -77,6 +77,8 @@ impl Flat {
     }
 }
 
+// (The other bottom stores read and write by the same words. One impl for all three, `impl<B: Bottom> Store for B`, was
+// tried: under it no proof closes of a layer or a volume whose ghost field names what the store below means.)
 impl Store for Flat {
     ghost image = { flat_of };
 

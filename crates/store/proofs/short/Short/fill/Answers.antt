@@ -1,9 +1,8 @@
-use Rattle.std.proofs.Common.{Ok, vec_items, sym, ◌∙◌, ap₂}
+use Rattle.std.proofs.Common.{vec_items}
 use Rattle.store.specs.Bottoms.{short_of}
-use Rattle.store.specs.Stores.{stretch, short_place}
+use Rattle.store.specs.Stores.{short_place}
 use Rattle.store.specs.Shorts.{short_room, short_seen}
-use Rattle.store.specs.Stretches.{room_at}
-use Rattle.store.specs.Tabled.{filled_at}
+use Rattle.store.specs.Stretches.{room_at, filled_from}
 use Rattle.store.proofs.short.Short.fill.Goals as goal
 
 pub copy_out-requires : goal.copy_out-requires
@@ -14,4 +13,5 @@ copy_out-requires c =
 pub returns : goal.returns
 returns c =
     let s = c.args.self.now in
-    c.copy_out.ensures ∙ (ap₂ stretch c.deref.ensures.value c.place.ensures ∙ sym (filled_at (short_of s) c.args.sector c.args.buffer.now (Ok (stretch (vec_items s.buffer) (short_place c.args.sector))) (short_seen (vec_items s.buffer) c.args.sector c.requires)))
+    filled_from (short_of s) c.args.sector (short_place c.args.sector) c.place.result c.args.buffer.now (vec_items s.buffer) c.deref.result.now c.copy_out.new.buffer
+    (short_seen (vec_items s.buffer) c.args.sector c.requires) c.deref.ensures.value c.place.ensures c.copy_out.ensures
