@@ -1,5 +1,5 @@
 -- What std's searches and tests of a list find, in the words of the model.
-use Rattle.std.proofs.Common.{◌≡◌, ℕ, suc, ◌+◌, ◌<◌, ◌≤◌, Bool, true, false, cond, not, ◌&&◌, eqb, ltb, List, [], ◌∷◌, length, take, Some, None, Option, sym, refl, ap, ◌∙◌, ◌⊎◌, inl, inr, arith}
+use Rattle.std.proofs.Common.{◌≡◌, ℕ, suc, ◌+◌, ◌<◌, ◌≤◌, Bool, true, false, cond, not, ◌&&◌, eqb, ltb, List, [], ◌∷◌, map, length, take, Some, None, Option, sym, refl, ap, ap₂, ◌∙◌, ◌⊎◌, inl, inr, arith}
 use Rattle.std.proofs.lemmas.Bool.{cases_lt, lt-ltb, le-ltb}
 use Rattle.std.proofs.lemmas.List.Sums.{prefix_len-le-length}
 use Rattle.std.specs.Option.{unwrap_or}
@@ -7,6 +7,7 @@ use Rattle.std.specs.List.{position, position_or_len, list_all}
 use Rattle.model.specs.Image.{all}
 use Rattle.model.specs.Tree.{first, raised}
 use Rattle.model.specs.Tables.{up_to_blank}
+pub use Rattle.tables.proofs.Blanks.{is_blank}
 
 -- `all` asks what the model's does
 pub all_is : {A : Type 0} (f : A → Bool) (xs : List A) → list_all f xs ≡ all f xs
@@ -30,10 +31,15 @@ first_is {A} f (x ∷ xs) = go (f x) (position_or_len f xs) (first_is f xs)
     go true n e = ap (λ t. cond t (Some 0) None) (lt-ltb 0 (suc (length xs)) (omega arith))
     go false n e = next_place n (length xs) ∙ ap raised e
 
--- up to the first 0x00 --------------------------------------------------------------------------------
+pub first-map : {A B : Type 0} (f : B → Bool) (g : A → B) (xs : List A) → first f (map g xs) ≡ first (λ x. f (g x)) xs
+first-map f g [] = refl
+first-map f g (x ∷ xs) = ap (λ o. cond (f (g x)) (Some 0) (raised o)) (first-map f g xs)
 
-abbrev pub is_blank : ℕ → Bool
-is_blank b = eqb b 0
+pub first_never : {A : Type 0} (f : A → Bool) (xs : List A) → ((x : A) → f x ≡ false) → first f xs ≡ None
+first_never f [] h = refl
+first_never f (x ∷ xs) h = ap₂ (λ b o. cond b (Some 0) (raised o)) (h x) (first_never f xs h)
+
+-- up to the first 0x00 --------------------------------------------------------------------------------
 
 blank_place : (xs : List ℕ) → (up_to_blank xs ≡ take (position_or_len is_blank xs) xs) × (length (up_to_blank xs) ≡ position_or_len is_blank xs)
 blank_place [] = (refl, refl)
