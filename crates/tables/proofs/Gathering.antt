@@ -102,9 +102,6 @@ module _ (lives : ℕ → Bool) (t : Tables) (c : List Bool) (e : Entry) (es : L
       ∙ sym (places-step x (told c x) e es r rs)
       ∙ k.adds x l
 
-  pub free_passes : live e ≡ false → Gathers lives t c es rs
-  free_passes v = record { gives = gives_on false v; adds = adds_on false v }
-
   pub row_claims : live e ≡ true → (proper_row lives r && unclaimed (told c) (used r)) ≡ true → (d : List Bool) → ((x : ℕ) → told d x ≡ (member x (used r) || told c x)) → Gathers lives t d es rs
   row_claims v h d claims = record {
     gives = ap₂ (λ (b : Bool) (f : ℕ → Bool). b && left lives f es rs) (sym h) (λ j x. claims x j) ∙ gives_on true v;

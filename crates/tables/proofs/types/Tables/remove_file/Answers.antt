@@ -1,8 +1,8 @@
-use Rattle.std.proofs.Common.{List, sym, refl, ap, ◌∙◌, arith}
+use Rattle.std.proofs.Common.{List, refl, ap, ◌∙◌, arith}
 use Rattle.model.specs.Tables.{Tables as Model, Entry as ModelEntry}
 use Rattle.model.specs.Volume.{freed}
 use Rattle.tables.specs.Views.{view}
-use Rattle.tables.proofs.Changing.{freed-at, freed-past}
+use Rattle.tables.proofs.Changing.{freed-at}
 use Rattle.tables.proofs.types.Tables.remove_file.Goals as goal
 
 abbrev with-files : Model → List ModelEntry → Model
@@ -12,10 +12,4 @@ pub returns-then-i-lt-ENTRIES : goal.returns-then-i-lt-ENTRIES
 returns-then-i-lt-ENTRIES c =
     let t = c.mark_row.new.self in
     ap (with-files (view t)) (freed-at t.files c.args.number c.index-self-i.result _ (let f = t.filed in let l = c.if-i-lt-ENTRIES.true in omega arith) refl)
-    ∙ ap (λ (u : Model). with-files u (freed u.files c.args.number)) c.mark_row.ensures
-
-pub returns-else-i-lt-ENTRIES : goal.returns-else-i-lt-ENTRIES
-returns-else-i-lt-ENTRIES c =
-    let t = c.mark_row.new.self in
-    sym (ap (with-files (view t)) (freed-past t.files c.args.number (let f = t.filed in let l = c.if-i-lt-ENTRIES.false in omega arith)))
     ∙ ap (λ (u : Model). with-files u (freed u.files c.args.number)) c.mark_row.ensures
