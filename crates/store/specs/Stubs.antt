@@ -1,6 +1,6 @@
 -- The store of the tests: one live sector, and the others dead.
 use Rattle.std.specs.Prelude.{◌≡◌, ℕ, ◌<◌, ◌≤◌, Bool, true, false, cond, List, length, Ok, Err, Result, ◌==◌, nat_lt, refl}
-use Rattle.std.proofs.Common.{sym, ap, ◌∙◌, arith}
+use Rattle.std.proofs.Common.{sym, ap, ◌∙◌}
 use Rattle.std.proofs.lemmas.Bool.{ltb-true, ltb-false, eqb-true, eq-eqb, ne_eqb}
 use Rattle.model.specs.declared.types.Fault.{Fault}
 use Rattle.model.specs.Sizes.{sector_size, most_sectors}

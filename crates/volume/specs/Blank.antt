@@ -1,6 +1,5 @@
 -- Which data sectors are dead, as an array tells, and what a new volume holds.
-use Rattle.std.specs.Prelude.{◌≡◌, ℕ, Bool, true, cond, not, List, Ok, nat_lt, slice_index_or}
-use Rattle.model.specs.Sizes.{first_data, last_data, mark_used, mark_free, mark_dead}
+use Rattle.std.specs.Prelude.{◌≡◌, ℕ, Bool, true, not, List, Ok, slice_index_or}
 use Rattle.model.specs.Image.{Image}
 use Rattle.model.specs.Tables.{Tables, data_sector, alive, load}
 use Rattle.model.specs.Sound.{Sound}
