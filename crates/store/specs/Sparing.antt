@@ -1,13 +1,14 @@
 -- Pairs: when they fit one another and the store below, and that two visible sectors are never served by one.
-use Rattle.std.specs.Prelude.{◌≡◌, ℕ, ◌<◌, ◌≤◌, Bool, true, false, cond, not, ◌&&◌, ◌||◌, ltb, leb, ◌⊎◌, List, [], ◌∷◌, length, Some, None, Option, ◌==◌, ◌≢◌, nat_le, nat_lt, refl}
+use Rattle.std.specs.Prelude.{◌≡◌, ℕ, ◌<◌, ◌≤◌, Bool, true, false, cond, not, ◌&&◌, ◌||◌, ltb, leb, ◌⊎◌, List, [], ◌∷◌, length, Some, None, Option, Result, ◌==◌, ◌≢◌, nat_le, nat_lt, refl}
 use Rattle.std.specs.List.{find, list_all, list_any}
 use Rattle.std.specs.Option.{MatchOption, option_map}
 use denote.Ref.{Bor}
 use Rattle.std.proofs.Common.{sym, ap, ◌∙◌, inl, inr, arith}
 use Rattle.std.proofs.lemmas.Bool.{ltb-true, leb-true, le-leb, eq-eqb, ne_eqb, cases_eq, and_parts, not-true, both_ways}
-use Rattle.model.specs.Image.{all}
+use Rattle.model.specs.declared.types.Refusal.{Refusal}
+use Rattle.model.specs.Image.{Image, all}
 use Rattle.store.specs.declared.spares.Spare.{Spare}
-use Rattle.store.specs.Stores.{most_listed, member, distinct, sectors_of, spares_of, pairs_fit, served}
+use Rattle.store.specs.Stores.{most_listed, member, distinct, sectors_of, spares_of, pairs_fit, spares_fit, fit_answer, served}
 use Rattle.store.specs.Layered.{Serves}
 
 -- the sector that serves s -----------------------------------------------------------------------------------------
@@ -76,6 +77,9 @@ module _ (v : ℕ) (ps : List Spare) where
 
   abbrev pub fits : ℕ → Bool
   fits n = pairs_fit v ps && nat_le v n && all (λ s. ltb s n) (spares_of ps)
+
+  pub fits_over : (i : Image) (n : ℕ) (r : Bool) (a : Result (Unit {0}) Refusal) → a ≡ fit_answer r → r ≡ fits n → n ≡ length i → a ≡ fit_answer (spares_fit i v ps)
+  fits_over i n r a e h k = e ∙ ap fit_answer (h ∙ ap fits k)
 
   pub suits : (n : ℕ) (r : Bool) → pairs_fit v ps ≡ true → v ≤ n → r ≡ list_all (λ p. nat_lt p.spare n) ps → r ≡ fits n
   suits n r h k e =

@@ -13,6 +13,7 @@ use model::types::Refusal;
 impl<S: Store> Spares<S> {
     // Whether there are at most eight pairs, of visible sectors that differ, with spares that differ, are not visible and
     // stand in the store below, which has the visible sectors too.
+    #[tactic(auto, using(crate::specs::Sparing::fits_over))]
     pub fn fits(below: &S, visible: u16, pairs: &[Spare]) -> Result<(), Refusal>
         ensures { result ≡ fit_answer (spares_fit (S.image below.now) visible pairs.now) }
     {
