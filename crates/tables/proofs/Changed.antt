@@ -46,13 +46,6 @@ abbrev moving : Model → ℕ → List ℕ → List ℕ → Option (Kind × ℕ)
 moving t d p q o = check (not (is_some o && leads t d q)) lost ∷ check (is_some (named t d q)) taken ∷ check (is_dir o && within (names p) (names q)) inside ∷ []
 
 module _ (t : Model) (i : Image) (d : ℕ) (p q : List ℕ) where
-  pub move_misspelt : spelt q ≡ false → picked (checks t i (move d p q)) ≡ Some misspelt
-  move_misspelt h = stop (not (spelt p && spelt q)) misspelt _ (ap not (ap (λ (b : Bool). spelt p && b) h ∙ right (spelt p)))
-    where
-      right : (b : Bool) → (b && false) ≡ false
-      right true = refl
-      right false = refl
-
   -- the checks of p, with q well spelt
   begun-with : spelt q ≡ true → picked (begun t d p) ≡ picked (check (not (spelt p && spelt q)) misspelt ∷ check (not (starts t d)) start ∷ [])
   begun-with h = ap (λ (b : Bool). picked (check (not b) misspelt ∷ check (not (starts t d)) start ∷ [])) (sym (ap (λ (b : Bool). spelt p && b) h ∙ right (spelt p)))
@@ -87,11 +80,3 @@ module _ (t : Model) (i : Image) (d : ℕ) (p q : List ℕ) where
 
 pub move-after : (t : Model) (d : ℕ) (p q : List ℕ) (x : Kind × ℕ) (e : ModelEntry) → named t d p ≡ Some x → e ≡ new_entry t d q → renamed t (Some x) e ≡ tables_after t (move d p q)
 move-after t d p q x e h k = ap (renamed t (Some x)) k ∙ ap (λ (o : Option (Kind × ℕ)). renamed t o (new_entry t d q)) (sym h)
-
--- only a directory can go into itself
-pub file_outside : (k : Kind) (n : ℕ) (b : Bool) → (k ≡ directory → ⊥) → (is_dir (Some (k, n)) && b) ≡ false
-file_outside directory n b h = absurd (h refl)
-file_outside file n b h = refl
-
-pub dir_within_is : (k : Kind) (b : Bool) → k ≡ directory → b ≡ (is_dir (Some (k, 0)) && b)
-dir_within_is k b h = sym (ap (λ (x : Kind). is_dir (Some (x, 0)) && b) h)

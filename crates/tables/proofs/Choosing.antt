@@ -1,6 +1,7 @@
 -- Which refusal a list of checks picks, part by part.
-use Rattle.std.proofs.Common.{◌≡◌, ℕ, Bool, true, false, cond, List, [], ◌∷◌, ◌++◌, IsErrAnd, Some, None, Err, Option, Result, sym, refl, ap, ◌∙◌, subst, arith}
+use Rattle.std.proofs.Common.{◌≡◌, ℕ, Bool, true, false, cond, List, [], ◌∷◌, ◌++◌, IsErrAnd, Some, None, Ok, Err, Option, Result, sym, refl, ap, ◌∙◌, subst, arith}
 use Rattle.std.proofs.lemmas.Result.{err_from_is_err_and}
+use Rattle.std.specs.Option.{MatchOption, ok_or}
 use Rattle.model.specs.Refusals.{Check, picked}
 use Rattle.model.specs.declared.types.Refusal.{Refusal}
 use Rattle.tables.specs.Plans.{Passes}
@@ -35,3 +36,17 @@ front_stopped (x ∷ xs) ys e h = go x.refuses h (front_stopped xs ys e)
 
 pub handed_on : {A : Type 0} (cs : List Check) (made : A → Type 0) (r : Result A Refusal) (e : Refusal) → IsErrAnd r (λ x. x ≡ e) → picked cs ≡ Some e → Passes cs made r
 handed_on cs made r e by h = let p = err_from_is_err_and r by in subst (λ (x : Result _ Refusal). Passes cs made x) (sym (p.1 ∙ ap Err p.2)) h
+
+-- an option as a result ------------------------------------------------------------------------------------------
+
+pub ok_some : {A : Type 0} (o : Option A) (e : Refusal) (a : A) → ◌≡◌ {A = Result A Refusal} (Ok a) (ok_or o e) → Some a ≡ o
+ok_some None e a h = absurd (let z : ◌≡◌ {A = ℕ} 0 1 = cc in let w : ⊥ = omega arith in w)
+ok_some (Some b) e a h = let same : a ≡ b = cc in ap Some same
+
+pub err_none : {A : Type 0} (o : Option A) (e f : Refusal) → ◌≡◌ {A = Result A Refusal} (Err f) (ok_or o e) → (None ≡ o) × (e ≡ f)
+err_none None e f h = (refl, cc)
+err_none (Some b) e f h = absurd (let z : ◌≡◌ {A = ℕ} 0 1 = cc in let w : ⊥ = omega arith in w)
+
+-- what is told of an option, where there is a value
+pub told_some : {A : Type 0} (o : Option A) (x : A) (P : Type 0) (Q : A → Type 0) → Some x ≡ o → MatchOption o P Q → Q x
+told_some o x P Q e h = subst (λ (p : Option _). MatchOption p P Q) (sym e) h

@@ -1,13 +1,20 @@
--- A path cut at each slash: where the first one stands, the last name, a path within another.
-use Rattle.std.proofs.Common.{◌≡◌, ℕ, suc, ◌+◌, ◌-◌, ◌<◌, ◌≤◌, Bool, true, false, cond, ◌&&◌, eqb, List, [], ◌∷◌, ◌++◌, length, get_or, take, drop, Some, None, Option, sym, refl, ap, ◌∙◌, subst, ap₂, arith}
-use Rattle.std.proofs.lemmas.List.{drop_all, drop_more, take-append-drop, take_rest}
+-- A path cut at each slash: the last name, a path within another.
+use Rattle.std.proofs.Common.{◌≡◌, ℕ, suc, ◌+◌, ◌-◌, ◌<◌, Bool, true, false, cond, ◌&&◌, eqb, List, [], ◌∷◌, ◌++◌, length, get_or, sym, refl, ap, ◌∙◌, ap₂, arith}
+use Rattle.std.proofs.lemmas.List.{get_or-append-add, length-append}
+use Rattle.std.proofs.Math.Seq.{get_or-append_seam}
+use Rattle.std.specs.Bool.{MatchBool}
+use Rattle.std.specs.List.{IsAfterLastMatch, slice_split}
 use Rattle.std.proofs.lemmas.Bool.{cond-false, eq-eqb, eqb-true, eqb-false, ne_eqb}
 use Rattle.model.specs.Book.{last}
 use Rattle.model.specs.Names.{Name, Path, cut, names, onto, same_name, within}
-use Rattle.model.specs.Tree.{first, raised}
 
 abbrev pub is_slash : ℕ → Bool
 is_slash b = eqb b 0x2f
+
+-- as `split` cuts
+pub split_is : (bs : List ℕ) → slice_split is_slash bs ≡ cut bs
+split_is [] = refl
+split_is (b ∷ bs) = ap (λ ns. cond (is_slash b) ([] ∷ ns) (onto b ns)) (split_is bs)
 
 -- there is always a first name
 abbrev Parts : Path → Type 0
@@ -20,33 +27,6 @@ cut_parts (b ∷ bs) = go (is_slash b) (cut_parts bs)
     go : (x : Bool) → Parts (cut bs) → Parts (cond x ([] ∷ cut bs) (onto b (cut bs)))
     go true h = ([], cut bs, refl)
     go false h = (b ∷ h.0, h.1, ap (onto b) h.2)
-
--- at the first slash ---------------------------------------------------------------------------------
-
-not_none : {A : Type 0} (a : A) → ◌≡◌ {A = Option A} (Some a) None → ⊥
-not_none a e = let z : ◌≡◌ {A = ℕ} 0 1 = cc in omega arith
-
-pub cut_at : (p : List ℕ) (k : ℕ) → Some k ≡ first is_slash p → cut p ≡ take k p ∷ cut (drop (k + 1) p)
-cut_at [] k e = absurd (not_none k e)
-cut_at (b ∷ bs) k e = go (is_slash b) (first is_slash bs) refl (cut_at bs) k e
-  where
-    go : (x : Bool) (o : Option ℕ) → first is_slash bs ≡ o → ((m : ℕ) → Some m ≡ first is_slash bs → cut bs ≡ take m bs ∷ cut (drop (m + 1) bs))
-        → (k : ℕ) → Some k ≡ cond x (Some 0) (raised o) → cond x ([] ∷ cut bs) (onto b (cut bs)) ≡ take k (b ∷ bs) ∷ cut (drop (k + 1) (b ∷ bs))
-    go true o h ih k e = let q : 0 ≡ k = cc in subst (λ i. [] ∷ cut bs ≡ take i (b ∷ bs) ∷ cut (drop (i + 1) (b ∷ bs))) q refl
-    go false None h ih k e = absurd (not_none k e)
-    go false (Some m) h ih k e =
-        let q : suc m ≡ k = cc in
-        let r : suc (m + 1) ≡ suc m + 1 = omega arith in
-        ap (onto b) (ih m (sym h)) ∙ ap (λ i. (b ∷ take m bs) ∷ cut (drop i (b ∷ bs))) r ∙ ap (λ i. take i (b ∷ bs) ∷ cut (drop (i + 1) (b ∷ bs))) q
-
-pub cut-whole : (p : List ℕ) → None ≡ first is_slash p → cut p ≡ p ∷ []
-cut-whole [] e = refl
-cut-whole (b ∷ bs) e = go (is_slash b) (first is_slash bs) refl (cut-whole bs) e
-  where
-    go : (x : Bool) (o : Option ℕ) → first is_slash bs ≡ o → (None ≡ first is_slash bs → cut bs ≡ bs ∷ []) → None ≡ cond x (Some 0) (raised o) → cond x ([] ∷ cut bs) (onto b (cut bs)) ≡ (b ∷ bs) ∷ []
-    go true o h ih e = absurd (not_none 0 (sym e))
-    go false None h ih e = ap (onto b) (ih (sym h))
-    go false (Some m) h ih e = absurd (not_none (suc m) (sym e))
 
 -- from the last slash on -----------------------------------------------------------------------------
 
@@ -70,40 +50,23 @@ pub last-names : (p : List ℕ) → last (names p) ≡ last (cut p)
 last-names [] = refl
 last-names (b ∷ bs) = refl
 
--- what follows the last slash
-last-slash : (p q : List ℕ) → cut q ≡ q ∷ [] → last (names (p ++ 0x2f ∷ q)) ≡ q
-last-slash p q e = last-names (p ++ 0x2f ∷ q) ∙ ap last (cut_join p q ∙ ap (λ ns. cut p ++ ns) e) ∙ last-append (cut p) q []
+-- where no byte is a slash, all is one name
+one_name : (bs : List ℕ) → ((k : ℕ) → k < length bs → is_slash (get_or bs k 0) ≡ false) → cut bs ≡ bs ∷ []
+one_name [] h = refl
+one_name (b ∷ bs) h = cut_byte b bs (eqb-false b 0x2f (h 0 (omega arith))) (one_name bs (λ k l. h (suc k) (omega arith)))
 
--- the bytes from i on are one name
-abbrev pub OneName : List ℕ → ℕ → Type 0
-OneName p i = cut (drop i p) ≡ drop i p ∷ []
+-- x is what `split` gives last: all, where it is done, and else what follows the last slash
+pub cut_last : (p front x : List ℕ) (done : Bool) → MatchBool done (p ≡ x) ((y : ℕ) × (p ≡ front ++ y ∷ x)) → IsAfterLastMatch is_slash p (length p - length x) → cut p ≡ cond done [] (cut front) ++ x ∷ []
+cut_last p front x true e h = let n : length p ≡ length x = ap length e in one_name p (λ k l. h.0 k 0 (omega arith) l) ∙ ap (λ bs. bs ∷ []) e
+cut_last p front x false e h =
+    let long : length p ≡ length front + suc (length x) = ap length e.1 ∙ length-append front (e.0 ∷ x) in
+    let i : length p - length x - 1 ≡ length front = omega arith in
+    let byte : e.0 ≡ 0x2f = sym (ap (λ k. get_or p k 0) i ∙ ap (λ bs. get_or bs (length front) 0) e.1 ∙ get_or-append_seam front e.0 x 0) ∙ eqb-true (get_or p (length p - length x - 1) 0) 0x2f (h.1 (omega arith) 0) in
+    let rest : (k : ℕ) → k < length x → is_slash (get_or x k 0) ≡ false = λ k l. ap is_slash (sym (ap (λ bs. get_or bs (length front + suc k) 0) e.1 ∙ get_or-append-add front (e.0 ∷ x) (suc k) 0)) ∙ h.0 (length front + suc k) 0 (omega arith) (omega arith) in
+    ap cut e.1 ∙ ap (λ b. cut (front ++ b ∷ x)) byte ∙ cut_join front x ∙ ap (λ ns. cut front ++ ns) (one_name x rest)
 
--- the laws that a loop from the end brings along in its invariant
-pub record Lasts (p : List ℕ) : Type 0 where
-  pub start : OneName p (length p)
-  pub more : (i : ℕ) → 0 < i → i ≤ length p → OneName p i → (get_or p (i - 1) 0 ≡ 0x2f → ⊥) → OneName p (i - 1)
-  pub here : (i : ℕ) → 0 < i → i ≤ length p → OneName p i → get_or p (i - 1) 0 ≡ 0x2f → take (length p - (i - 1 + 1)) (drop (i - 1 + 1) p) ≡ last (names p)
-  pub over : (i : ℕ) → i ≡ 0 → OneName p i → p ≡ last (names p)
-
-pub lasts : (p : List ℕ) → Lasts p
-lasts p =
-    record {
-      start = let none = drop_all (length p) p (omega arith) in ap cut none ∙ ap (λ bs. bs ∷ []) (sym none);
-      more = λ i z l s h. ap cut (byte i z l) ∙ cut_byte (get_or p (i - 1) 0) (drop i p) h s ∙ ap (λ bs. bs ∷ []) (sym (byte i z l));
-      here =
-          λ i z l s h.
-          ap (λ k. take (length p - k) (drop k p)) (back i z)
-          ∙ take_rest p i
-          ∙ sym (last-slash (take (i - 1) p) (drop i p) s)
-          ∙ ap (λ bs. last (names bs)) (sym (sym (take-append-drop (i - 1) p) ∙ ap (λ bs. take (i - 1) p ++ bs) (byte i z l ∙ ap (λ b. b ∷ drop i p) h)));
-      over = λ i z s. sym (last-names p ∙ ap last (ap (λ k. cut (drop k p)) (sym z) ∙ s ∙ ap (λ k. drop k p ∷ []) z));
-    }
-  where
-    back : (i : ℕ) → 0 < i → i - 1 + 1 ≡ i
-    back i z = omega arith
-
-    byte : (i : ℕ) → 0 < i → i ≤ length p → drop (i - 1) p ≡ get_or p (i - 1) 0 ∷ drop i p
-    byte i z l = drop_more p (i - 1) 0 (omega arith) ∙ ap (λ k. get_or p (i - 1) 0 ∷ drop k p) (back i z)
+pub last_is : (p front x : List ℕ) (done : Bool) → MatchBool done (p ≡ x) ((y : ℕ) × (p ≡ front ++ y ∷ x)) → IsAfterLastMatch is_slash p (length p - length x) → x ≡ last (names p)
+last_is p front x done e h = sym (last-names p ∙ ap last (cut_last p front x done e h) ∙ last-append (cond done [] (cut front)) x [])
 
 -- a path within another ------------------------------------------------------------------------------
 

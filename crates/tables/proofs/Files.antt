@@ -21,7 +21,7 @@ use Rattle.tables.specs.Views.{entries_view, entry_view, marks_view, rows_view, 
 use Rattle.tables.specs.declared.types.Entry.{Entry}
 use Rattle.tables.specs.declared.types.Row.{Row}
 use Rattle.tables.specs.declared.types.Tables.{Tables}
-use Rattle.tables.proofs.Steps.{first-map}
+use Rattle.tables.proofs.Positions.{first-map}
 use Rattle.tables.specs.Plans.{begun, vacant}
 use Rattle.tables.specs.Writing.{Written, enough, lowest_row, roomy, spare, with_file}
 use Rattle.tables.specs.declared.consistent.Consistent.{Consistent}

@@ -1,6 +1,6 @@
 -- The free data sectors, found one by one: each search goes on behind the sector that was found last.
-use Rattle.std.proofs.Common.{◌≡◌, ℕ, zero, suc, ◌+◌, ◌-◌, ◌<◌, ◌≤◌, Bool, true, false, cond, eqb, List, [], ◌∷◌, ◌++◌, length, get_or, take, drop, set, replicate, Some, None, Option, sym, refl, ap, ◌∙◌, subst, ap₂, add-one, arith}
-use Rattle.std.proofs.lemmas.List.{append_assoc, append-nil, drop-drop, drop-map, drop_more, drop-replicate, drop-set-lt, length-append, length-drop, length-map, length-set, length-take-le, take-append-drop, take_at, take-map, take_more_set}
+use Rattle.std.proofs.Common.{◌≡◌, ℕ, zero, suc, ◌+◌, ◌-◌, ◌<◌, ◌≤◌, Bool, true, false, cond, eqb, List, [], ◌∷◌, ◌++◌, length, get_or, take, drop, set, replicate, Some, None, Option, sym, refl, ap, ◌∙◌, ap₂, add-one, arith}
+use Rattle.std.proofs.lemmas.List.{append_assoc, append-nil, drop-map, drop_more, drop-replicate, length-append, length-drop, length-map, length-set, length-take-le, take_all, take_at, take-map, take_more_set}
 use Rattle.std.proofs.lemmas.Bool.{le-leb, lt-leb}
 use Rattle.model.specs.Tree.{first, raised}
 use Rattle.model.specs.Volume.{free_from}
@@ -8,7 +8,7 @@ use Rattle.model.proofs.Common.Searches.{first_some}
 use Rattle.tables.specs.Views.{marks_view, view}
 use Rattle.tables.specs.declared.types.Mark.{Mark}
 use Rattle.tables.specs.declared.types.Tables.{Tables}
-use Rattle.tables.proofs.Steps.{first-map}
+use Rattle.tables.proofs.Positions.{first-map}
 use Rattle.tables.specs.Writing.{enough, lowest_row, spare}
 
 -- one search --------------------------------------------------------------------------------------------------
@@ -86,36 +86,24 @@ some_inside ms s k long l e =
 
 -- the row that fills up ---------------------------------------------------------------------------------------
 
--- i places are filled with the lowest free sectors, all below s, and the others are 0x00
-pub record Held (t : Tables) (ps : List ℕ) (i s : ℕ) : Type 0 where
-  pub long : length ps ≡ 16
+-- of n places i are filled with the lowest free sectors, all below s
+pub record Held (t : Tables) (n : ℕ) (ps : List ℕ) (i s : ℕ) : Type 0 where
+  pub long : length ps ≡ n
   pub small : s ≤ 256
   pub found : spare (view t) ≡ take i ps ++ spare-from t.marks s
-  pub rest : drop i ps ≡ replicate (16 - i) 0
 
 -- the laws that the loop's invariant brings along
 pub record Hunts (t : Tables) (n : ℕ) : Type 0 where
-  pub next : (ps : List ℕ) (i s k : ℕ) → Held t ps i s → i < n → Some k ≡ first is_free (left t.marks s) → Held t (set ps i (s + k)) (i + 1) (s + (k + 1))
-  pub stop : (ps : List ℕ) (i s : ℕ) → Held t ps i s → i < n → None ≡ first is_free (left t.marks s) → enough (view t) n ≡ false
-  pub over : (ps : List ℕ) (i s : ℕ) → Held t ps i s → i ≤ n → n ≤ i → (enough (view t) n ≡ true) × (ps ≡ lowest_row (view t) n)
+  pub next : (ps : List ℕ) (i s k : ℕ) → Held t n ps i s → i < length ps → Some k ≡ first is_free (left t.marks s) → Held t n (set ps i (s + k)) (i + 1) (s + (k + 1))
+  pub stop : (ps : List ℕ) (i s : ℕ) → Held t n ps i s → i < length ps → None ≡ first is_free (left t.marks s) → enough (view t) n ≡ false
+  pub over : (ps : List ℕ) (i s : ℕ) → Held t n ps i s → length ps ≤ i → (enough (view t) n ≡ true) × (ps ++ drop n (replicate 16 0) ≡ lowest_row (view t) n)
 
-pub held_none : (t : Tables) → Held t (replicate 16 0) 0 0x0b
+pub held_none : (t : Tables) (n : ℕ) → n ≤ 16 → Held t n (take n (replicate 16 0)) 0 0x0b
 unfolding spare-from spare
-held_none t = record { long = refl; small = omega arith; found = refl; rest = refl }
+held_none t n few = record { long = length-take-le n (replicate 16 0) few; small = omega arith; found = refl }
 
-rest_more : (m : ℕ) (ps : List ℕ) (i v : ℕ) → drop i ps ≡ replicate (m - i) 0 → drop (i + 1) (set ps i v) ≡ replicate (m - (i + 1)) 0
-rest_more m ps i v e =
-    drop-set-lt (i + 1) ps i v (omega arith)
-    ∙ sym (drop-drop 1 i ps)
-    ∙ ap (drop 1) e
-    ∙ drop-replicate 1 (m - i) 0
-    ∙ ap (λ k. replicate k 0) one_less
-  where
-    one_less : m - i - 1 ≡ m - (i + 1)
-    one_less = omega arith
-
-pub hunts : (t : Tables) (n : ℕ) → n ≤ 16 → Hunts t n
-hunts t n few =
+pub hunts : (t : Tables) (n : ℕ) → Hunts t n
+hunts t n =
     record {
       next = λ ps i s k h l e. record {
         long = length-set ps i (s + k) ∙ h.long;
@@ -124,27 +112,19 @@ hunts t n few =
             h.found
             ∙ ap (λ x. take i ps ++ x) (spare_some t.marks s k t.marked h.small e)
             ∙ sym (append_assoc (take i ps) ((s + k) ∷ []) (spare-from t.marks (s + (k + 1))))
-            ∙ ap (λ x. x ++ spare-from t.marks (s + (k + 1))) (sym (take_more_set ps i (s + k) (let a = h.long in omega arith)));
-        rest = rest_more 16 ps i (s + k) h.rest;
+            ∙ ap (λ x. x ++ spare-from t.marks (s + (k + 1))) (sym (take_more_set ps i (s + k) l));
       };
       stop = λ ps i s h l e.
           let a = ap length (h.found ∙ ap (λ x. take i ps ++ x) (spare-told t.marks s t.marked h.small None e) ∙ append-nil (take i ps)) in
-          let b = length-take-le i ps (let c = h.long in omega arith) in
-          lt-leb n (length (spare (view t))) (less (length (spare (view t))) (length (take i ps)) i a b l);
-      over = λ ps i s h l m. (many ps i s h (let e : i ≡ n = omega arith in e), whole ps i s h (let e : i ≡ n = omega arith in e));
+          let b = length-take-le i ps (omega arith) in
+          lt-leb n (length (spare (view t))) (less (length (spare (view t))) (length (take i ps)) i a b (let c = h.long in omega arith));
+      over = λ ps i s h l.
+          let all : spare (view t) ≡ ps ++ spare-from t.marks s = h.found ∙ ap (λ x. x ++ spare-from t.marks s) (take_all i ps l) in
+          let long = ap length all ∙ length-append ps (spare-from t.marks s) in (
+            le-leb n (length (spare (view t))) (let c = h.long in omega arith),
+            ap₂ (λ x y. x ++ y) (sym (ap (take n) all ∙ take_at ps (spare-from t.marks s) n h.long)) (drop-replicate n 16 0),
+          );
     }
   where
     less : (a b i : ℕ) → a ≡ b → b ≡ i → i < n → a < n
     less a b i p q l = omega arith
-
-    many : (ps : List ℕ) (i s : ℕ) → Held t ps i s → i ≡ n → enough (view t) n ≡ true
-    many ps i s h e =
-        let a = length-take-le i ps (let c = h.long in omega arith) in
-        let b = ap length h.found ∙ length-append (take i ps) (spare-from t.marks s) in
-        le-leb n (length (spare (view t))) (omega arith)
-
-    whole : (ps : List ℕ) (i s : ℕ) → Held t ps i s → i ≡ n → ps ≡ lowest_row (view t) n
-    whole ps i s h e =
-        let long = length-take-le i ps (let c = h.long in omega arith) in
-        let front : take i (spare (view t)) ≡ take i ps = ap (take i) h.found ∙ take_at (take i ps) (spare-from t.marks s) i long in
-        subst (λ j. ps ≡ lowest_row (view t) j) e (sym (take-append-drop i ps) ∙ ap₂ (λ x y. x ++ y) (sym front) h.rest)

@@ -1,6 +1,6 @@
 -- The item that a path names, and the place of a new one.
-use Rattle.std.proofs.Common.{◌≡◌, ℕ, ◌<◌, ◌≤◌, true, false, not, ◌&&◌, leb, List, [], ◌∷◌, length, is_some as option_is_some, Some, None, Option, sym, refl, ap, ◌∙◌, arith}
-use Rattle.std.proofs.lemmas.Bool.{and_parts, leb-true, false≢true}
+use Rattle.std.proofs.Common.{◌≡◌, ℕ, ◌≤◌, true, false, not, ◌&&◌, leb, List, [], ◌∷◌, length, is_some as option_is_some, Some, None, Option, sym, refl, ap, ◌∙◌}
+use Rattle.std.proofs.lemmas.Bool.{and_parts, leb-true}
 use Rattle.model.specs.Refusals.{check, picked}
 use Rattle.model.specs.Names.{Path, names, spelt, padded}
 use Rattle.model.specs.Book.{last}
@@ -16,10 +16,6 @@ use Rattle.tables.proofs.Choosing.{skip, stop, front-passed}
 
 -- of the wanted kind -------------------------------------------------------------------------------------------
 
-kind_is : (k : Kind) (n : ℕ) → is_kind k (Some (k, n)) ≡ true
-kind_is directory n = refl
-kind_is file n = refl
-
 pub kind-other : (k f : Kind) (n : ℕ) → (f ≡ k → ⊥) → is_kind k (Some (f, n)) ≡ false
 kind-other directory directory n h = absurd (h refl)
 kind-other directory file n h = refl
@@ -30,17 +26,10 @@ pub kind_none : (k : Kind) → is_kind k None ≡ false
 kind_none directory = refl
 kind_none file = refl
 
-pub there-passed : (k : Kind) (t : Tables) (d : ℕ) (p : List ℕ) (n : ℕ) → picked (begun t d p) ≡ None → named t d p ≡ Some (k, n) → picked (there k t d p) ≡ None
-there-passed k t d p n h e = front-passed (begun t d p) (check (not (is_kind k (named t d p))) lost ∷ []) h ∙ skip (not (is_kind k (named t d p))) lost None (ap not (ap (is_kind k) e ∙ kind_is k n)) refl
-
 pub there_lost : (k : Kind) (t : Tables) (d : ℕ) (p : List ℕ) (o : Option (Kind × ℕ)) → picked (begun t d p) ≡ None → o ≡ named t d p → is_kind k o ≡ false → picked (there k t d p) ≡ Some lost
 there_lost k t d p o h e q = front-passed (begun t d p) (check (not (is_kind k (named t d p))) lost ∷ []) h ∙ stop (not (is_kind k (named t d p))) lost None (ap not (ap (is_kind k) (sym e) ∙ q))
 
 -- a path that is well spelt has a name ---------------------------------------------------------------------------
-
-pub spelt-long : (p : List ℕ) → spelt p ≡ true → 0 < length p
-spelt-long [] h = absurd (false≢true h)
-spelt-long (b ∷ p) h = omega arith
 
 pub named-spelt : (t : Tables) (d : ℕ) (p : List ℕ) → spelt p ≡ true → named t d p ≡ item_in t (holder t d (names p)) (last (names p))
 named-spelt t d p h = go (names p) (spelt_some p h)

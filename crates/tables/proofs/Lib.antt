@@ -20,10 +20,9 @@ pub mod Listings
 pub mod Marking
 pub mod Positions
 pub mod Prunes
+pub mod Roads
 pub mod Seeks
 pub mod Shapes
-pub mod Spellings
-pub mod Steps
 pub mod Subtrees
 pub mod Told
 pub mod Verdict

@@ -1,7 +1,7 @@
 -- The least name of a directory, found in one pass over its entries, and the checks that come before.
-use Rattle.std.proofs.Common.{◌≡◌, ℕ, ◌+◌, ◌<◌, ◌≤◌, Bool, true, false, cond, not, ◌&&◌, eqb, ◌⊎◌, List, [], ◌∷◌, ◌++◌, length, get_or, drop, Some, None, Option, sym, refl, ap, ◌∙◌, subst, inl, inr, add-one}
-use Rattle.std.proofs.lemmas.List.{at_drop_more, at_drop_all}
-use Rattle.std.proofs.lemmas.Bool.{and_from, and_left, and_right, both_ways, eq-eqb, ne_eqb}
+use Rattle.std.proofs.Common.{◌≡◌, ℕ, suc, map, ◌+◌, Bool, true, false, cond, not, ◌&&◌, eqb, ◌⊎◌, List, [], ◌∷◌, ◌++◌, length, Some, None, Option, sym, refl, ap, ◌∙◌, subst, inl, inr, add-one}
+use Rattle.std.specs.List.{filter, fold, range_with_len, zip}
+use Rattle.std.proofs.lemmas.Bool.{both_ways}
 use Rattle.model.specs.Answers.{Listed, children, lesser, least_after, listing}
 use Rattle.model.specs.Names.{Name, before}
 use Rattle.model.specs.Tables.{Tables, live, trimmed}
@@ -53,66 +53,50 @@ least_join a (x ∷ xs) ys = go (before a x.name) (least_join a xs ys)
     go true ih = ap (lesser_of (Some x)) ih ∙ sym (lesser_assoc (Some x) (least_after a xs) (least_after a ys))
     go false ih = ih
 
--- one pass -------------------------------------------------------------------------------------------------
+-- the items of a directory, one after another ----------------------------------------------------------------
 
--- the lesser of o and what the entries from i on hold is that of `first` and what they all hold
-abbrev pub Left : Kind → ℕ → Name → List Entry → Option Listed → ℕ → Option Listed → Type 0
-Left k d a es first i o = lesser_of first (least_after a (children k d 0 (entries_view es))) ≡ lesser_of o (least_after a (children k d i (entries_view (drop i es))))
+-- the lesser of what was found so far and one more item
+abbrev pub add : Option Listed → Listed → Option Listed
+add o x = lesser_of o (Some x)
 
--- The laws that the loop's invariant brings along: entry i is free, of another directory, not after a, or one more item.
-pub record Finds (k : Kind) (d : ℕ) (a : Name) (es : List Entry) (first : Option Listed) : Type 0 where
-  pub free : (i : ℕ) (e : Entry) (o : Option Listed) → i < length es → Left k d a es first i o → live (entry_view (get_or es i e)) ≡ false → Left k d a es first (i + 1) o
-  pub elsewhere : (i : ℕ) (e : Entry) (o : Option Listed) → i < length es → Left k d a es first i o → ((get_or es i e).parent ≡ d → ⊥) → Left k d a es first (i + 1) o
-  pub early : (i : ℕ) (e : Entry) (o : Option Listed) (n : Name) → i < length es → Left k d a es first i o → n ≡ trimmed (get_or es i e).name → before a n ≡ false → Left k d a es first (i + 1) o
-  pub here : (i : ℕ) (e : Entry) (o : Option Listed) (n : Name) (x : Listed) → i < length es → Left k d a es first i o → live (entry_view (get_or es i e)) ≡ true → (get_or es i e).parent ≡ d → n ≡ trimmed (get_or es i e).name → before a n ≡ true
-      → Some x ≡ lesser_of o (Some (record { kind = k; number = i; name = n })) → Left k d a es first (i + 1) (Some x)
-  pub over : (i : ℕ) (o : Option Listed) → length es ≤ i → Left k d a es first i o → (seen : List Listed) → first ≡ least_after a seen → o ≡ least_after a (seen ++ children k d 0 (entries_view es))
+abbrev pub comes_after : Name → Listed → Bool
+comes_after a x = before a x.name
 
-pub finds : (k : Kind) (d : ℕ) (a : Name) (es : List Entry) (first : Option Listed) → Finds k d a es first
-finds k d a es first =
-    record {
-      free = λ i e o l s h. skip i e o l s (and_left (live (entry_view (get_or es i e))) (eqb (get_or es i e).parent d) h);
-      elsewhere = λ i e o l s h. skip i e o l s (and_right (live (entry_view (get_or es i e))) (eqb (get_or es i e).parent d) (ne_eqb (get_or es i e).parent d h));
-      early = λ i e o n l s same h. step i e o l s ∙ ap (lesser_of o) (passed (is_child i e) (item i e) (rest i) (ap (before a) (sym same) ∙ h));
-      here = λ i e o n x l s lives under same h new.
-          step i e o l s
-          ∙ ap (λ b. lesser_of o (least_after a (cond b (item i e ∷ rest i) (rest i)))) (and_from (live (entry_view (get_or es i e))) (eqb (get_or es i e).parent d) lives (eq-eqb (get_or es i e).parent d under))
-          ∙ ap (λ b. lesser_of o (cond b (Some (lesser (item i e) (least_after a (rest i)))) (least_after a (rest i)))) (ap (before a) (sym same) ∙ h)
-          ∙ sym (lesser_assoc o (Some (item i e)) (least_after a (rest i)))
-          ∙ ap (λ m. lesser_of (lesser_of o (Some (record { kind = k; number = i; name = m }))) (least_after a (rest i))) (sym same)
-          ∙ ap (λ p. lesser_of p (least_after a (rest i))) (sym new);
-      over = λ i o l s seen h.
-          sym (lesser_none o)
-          ∙ sym (ap (lesser_of o) (at_drop_all (λ xs. least_after a (children k d i (entries_view xs))) es i l))
-          ∙ sym s
-          ∙ ap (λ p. lesser_of p (least_after a (children k d 0 (entries_view es)))) h
-          ∙ sym (least_join a seen (children k d 0 (entries_view es)));
-    }
+abbrev pub is_in : ℕ → ℕ × Entry → Bool
+is_in d p = live (entry_view p.1) && eqb p.1.parent d
+
+abbrev pub item_of : Kind → ℕ × Entry → Listed
+item_of k p = record { kind = k; number = p.0; name = trimmed p.1.name }
+
+children_are : (k : Kind) (d n : ℕ) (es : List Entry) → map (item_of k) (filter (is_in d) (zip (range_with_len n (length es)) es)) ≡ children k d n (entries_view es)
+children_are k d n [] = refl
+children_are k d n (e ∷ es) = go (is_in d (n, e)) (children_are k d (n + 1) es ∙ ap (λ m. children k d m (entries_view es)) (add-one n))
   where
-    rest : ℕ → List Listed
-    rest i = children k d (i + 1) (entries_view (drop (i + 1) es))
+    rest : List (ℕ × Entry)
+    rest = filter (is_in d) (zip (range_with_len (n + 1) (length es)) es)
 
-    item : ℕ → Entry → Listed
-    item i e = record { kind = k; number = i; name = trimmed (get_or es i e).name }
+    go : (b : Bool) → map (item_of k) rest ≡ children k d (suc n) (entries_view es) → map (item_of k) (cond b ((n, e) ∷ rest) rest) ≡ cond b (item_of k (n, e) ∷ children k d (suc n) (entries_view es)) (children k d (suc n) (entries_view es))
+    go true h = ap (λ xs. item_of k (n, e) ∷ xs) h
+    go false h = h
 
-    is_child : ℕ → Entry → Bool
-    is_child i e = live (entry_view (get_or es i e)) && eqb (get_or es i e).parent d
+least_of : (a : Name) (xs : List Listed) (o : Option Listed) → fold add o (filter (comes_after a) xs) ≡ lesser_of o (least_after a xs)
+least_of a [] o = sym (lesser_none o)
+least_of a (x ∷ xs) o = go (comes_after a x) (least_of a xs)
+  where
+    go : (b : Bool) → ((p : Option Listed) → fold add p (filter (comes_after a) xs) ≡ lesser_of p (least_after a xs))
+        → fold add o (cond b (x ∷ filter (comes_after a) xs) (filter (comes_after a) xs)) ≡ lesser_of o (cond b (Some (lesser x (least_after a xs))) (least_after a xs))
+    go true h = h (add o x) ∙ lesser_assoc o (Some x) (least_after a xs)
+    go false h = h o
 
-    whole : Option Listed
-    whole = lesser_of first (least_after a (children k d 0 (entries_view es)))
-
-    step : (i : ℕ) (e : Entry) (o : Option Listed) → i < length es → Left k d a es first i o → whole ≡ lesser_of o (least_after a (cond (is_child i e) (item i e ∷ rest i) (rest i)))
-    step i e o l s =
-        s
-        ∙ ap (lesser_of o) (at_drop_more (λ xs. least_after a (children k d i (entries_view xs))) es i e l)
-        ∙ ap (λ (n : ℕ). let xs = children k d n (entries_view (drop (i + 1) es)) in lesser_of o (least_after a (cond (is_child i e) (item i e ∷ xs) xs))) (sym (add-one i))
-
-    skip : (i : ℕ) (e : Entry) (o : Option Listed) → i < length es → Left k d a es first i o → is_child i e ≡ false → Left k d a es first (i + 1) o
-    skip i e o l s h = step i e o l s ∙ ap (λ b. lesser_of o (least_after a (cond b (item i e ∷ rest i) (rest i)))) h
-
-    passed : (b : Bool) (x : Listed) (xs : List Listed) → before a x.name ≡ false → least_after a (cond b (x ∷ xs) xs) ≡ least_after a xs
-    passed true x xs h = ap (λ c. cond c (Some (lesser x (least_after a xs))) (least_after a xs)) h
-    passed false x xs h = refl
+-- found so far among `seen`, and then among the entries
+pub found_in : (k : Kind) (d : ℕ) (a : Name) (es : List Entry) (o r : Option Listed) → r ≡ fold add o (filter (comes_after a) (map (item_of k) (filter (is_in d) (zip (range_with_len 0 (length es)) es))))
+    → (seen : List Listed) → o ≡ least_after a seen → r ≡ least_after a (seen ++ children k d 0 (entries_view es))
+found_in k d a es o r h seen e =
+    h
+    ∙ ap (λ xs. fold add o (filter (comes_after a) xs)) (children_are k d 0 es)
+    ∙ least_of a (children k d 0 (entries_view es)) o
+    ∙ ap (λ p. lesser_of p (least_after a (children k d 0 (entries_view es)))) e
+    ∙ sym (least_join a seen (children k d 0 (entries_view es)))
 
 -- the checks of `next` -------------------------------------------------------------------------------------
 

@@ -29,13 +29,9 @@ impl Consistent {
         ensures { Passes (there kind (view self.now.tables) start path.now) (λ n. (named (view self.now.tables) start path.now ≡ Some (kind, n)) × (n < 32)) result }
     {
         self.check_start(start, path)?;
-        let Some((found, number)) = self.tables.item(start, path) else {
-            return Err(Refusal::Lost);
-        };
-        if found == kind {
-            Ok(number)
-        } else {
-            Err(Refusal::Lost)
+        match self.tables.item(start, path) {
+            Some((found, number)) if found == kind => Ok(number),
+            _ => Err(Refusal::Lost),
         }
     }
 
@@ -44,9 +40,7 @@ impl Consistent {
         requires { spelt path.now ≡ true }
         ensures { Passes (vacant (view self.now.tables) start path.now) (λ e. entry_view e ≡ new_entry (view self.now.tables) start path.now) result }
     {
-        let Some((dir, name)) = self.tables.place(start, path) else {
-            return Err(Refusal::Lost);
-        };
+        let (dir, name) = self.tables.place(start, path).ok_or(Refusal::Lost)?;
         if self.tables.item_in(dir, name).is_some() {
             return Err(Refusal::Taken);
         }

@@ -21,10 +21,7 @@ impl Consistent {
         if !self.tables.is_start(start) {
             return Err(Refusal::Start);
         }
-        match self.tables.item(start, path) {
-            Some(item) => Ok(item),
-            None => Err(Refusal::Lost),
-        }
+        self.tables.item(start, path).ok_or(Refusal::Lost)
     }
 
     // The number of the file that a path names.

@@ -34,21 +34,16 @@ fn least<'a>(
 ) -> Option<Listed<'a>>
     ensures { (seen : List Item) → option_map listed_view best.entry ≡ least_after after.now seen → option_map listed_view result ≡ least_after after.now (seen ++ children kind dir 0 (entries_view entries.now)) }
 {
-    let mut best = best;
-    for (i, entry) in entries.iter().enumerate() {
-        if entry.is_live() && entry.parent == dir {
-            let name = entry.name();
-            if precedes(after, name) {
-                let item = Listed {
-                    kind,
-                    number: i as u8,
-                    name,
-                };
-                best = Some(lesser(best, item));
-            }
-        }
-    }
-    best
+    (0..ENTRIES as u8)
+        .zip(entries.iter())
+        .filter(|(_, entry)| entry.is_live() && entry.parent == dir)
+        .map(|(number, entry)| Listed {
+            kind,
+            number,
+            name: entry.name(),
+        })
+        .filter(|item| precedes(after, item.name))
+        .fold(best, |best, item| Some(lesser(best, item)))
 }
 
 impl Consistent {

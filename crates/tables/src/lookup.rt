@@ -1,23 +1,14 @@
 // Finding items in the tables by their paths.
 ghost use Rattle.std.specs.Prelude.{◌≡◌, ◌<◌, length, IfSome, Some, None, MatchOption};
 ghost use Rattle.model.specs.Book.{last};
-ghost use Rattle.model.specs.Names.{names, same_name};
+ghost use Rattle.model.specs.Names.{names};
 ghost use Rattle.model.specs.Tables.{live_dir};
 ghost use Rattle.model.specs.Volume.{child as child_of, holder as holder_of, item_in, named, starts};
 ghost use Rattle.tables.specs.Views.{entries_view, view};
 
-use crate::names::padded;
-use crate::paths::slash;
-use crate::sizes::{ENTRIES, NAME, ROOT};
+use crate::sizes::{ENTRIES, NAME, ROOT, SLASH};
 use crate::types::{Entry, Tables};
 use model::types::Kind;
-
-// Whether an entry's name is these fifteen bytes.
-fn is_named(entry: &Entry, wanted: &[u8; NAME]) -> bool
-    ensures { result ≡ same_name entry.now.name wanted.now }
-{
-    entry.name == *wanted
-}
 
 // The number of the entry with this parent and this name.
 pub fn child(entries: &[Entry; ENTRIES], parent: u8, name: &[u8]) -> Option<u8>
@@ -27,24 +18,18 @@ pub fn child(entries: &[Entry; ENTRIES], parent: u8, name: &[u8]) -> Option<u8>
     if name.len() > NAME {
         return None;
     }
-    let wanted = padded(name);
-    for (i, entry) in entries.iter().enumerate() {
-        if entry.parent == parent && is_named(entry, &wanted) {
-            return Some(i as u8);
-        }
-    }
-    None
+    let wanted = Entry::new(parent, name);
+    entries
+        .iter()
+        .position(|entry| *entry == wanted)
+        .map(|i| i as u8)
 }
 
 impl Tables {
     pub fn is_live_dir(&self, dir: u8) -> bool
         ensures { result ≡ live_dir (view self.now).dirs dir }
     {
-        let i = dir as usize;
-        if i >= ENTRIES {
-            return false;
-        }
-        self.dirs[i].is_live()
+        self.dirs.get(dir as usize).is_some_and(Entry::is_live)
     }
 
     // The root, or a live directory.
@@ -55,24 +40,23 @@ impl Tables {
     }
 
     // The directory that is to hold the last name of a path, and that name.
+    // Start and path stay two parameters, here and in each call: POSIX's `*at` calls take them apart, and `rename` has one
+    // start with two paths.
     pub fn place<'a>(&self, start: u8, path: &'a [u8]) -> Option<(u8, &'a [u8])>
         ensures { MatchOption result (holder_of (view self.now) start (names path.now) ≡ None) (λ x. (holder_of (view self.now) start (names path.now) ≡ Some x.0) × (x.1.now ≡ last (names path.now))) }
     {
-        let mut dir = start;
-        let mut rest = path;
-        while let Some(at) = slash(rest) {
-            dir = child(&self.dirs, dir, &rest[0..at])?;
-            rest = &rest[at + 1..];
-        }
-        Some((dir, rest))
+        let mut names = path.split(|&b| b == SLASH);
+        let name = names.next_back()?;
+        names
+            .try_fold(start, |dir, name| child(&self.dirs, dir, name))
+            .map(|dir| (dir, name))
     }
 
     // The directory that is to hold the last name of a path.
     pub fn holder(&self, start: u8, path: &[u8]) -> Option<u8>
         ensures { result ≡ holder_of (view self.now) start (names path.now) }
     {
-        let (dir, _) = self.place(start, path)?;
-        Some(dir)
+        self.place(start, path).map(|(dir, _)| dir)
     }
 
     // The item of a name in a directory.
@@ -80,11 +64,9 @@ impl Tables {
         ensures value { result ≡ item_in (view self.now) (Some dir) name.now }
         ensures bound { IfSome result (λ x. x.1 < 32) }
     {
-        if let Some(number) = child(&self.dirs, dir, name) {
-            return Some((Kind::Directory, number));
-        }
-        let number = child(&self.files, dir, name)?;
-        Some((Kind::File, number))
+        child(&self.dirs, dir, name)
+            .map(|number| (Kind::Directory, number))
+            .or_else(|| child(&self.files, dir, name).map(|number| (Kind::File, number)))
     }
 
     // The item that a path names from a start; the empty path names the start itself.

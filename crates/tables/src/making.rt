@@ -16,9 +16,7 @@ impl Consistent {
         ensures { Decided (view self.now.tables) (mkdir start path.now) (λ m. After (view self.now.tables) (mkdir start path.now) m.after × (m.number ≡ or_zero (free_entry (view self.now.tables).dirs))) result }
     {
         self.check_start(start, path)?;
-        let Some(number) = first_free(&self.tables.dirs) else {
-            return Err(Refusal::Entries);
-        };
+        let number = first_free(&self.tables.dirs).ok_or(Refusal::Entries)?;
         let entry = self.new_entry(start, path)?;
         let mut tables = self.tables;
         let number = number as u8;

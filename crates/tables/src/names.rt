@@ -11,34 +11,21 @@ use crate::types::Entry;
 pub fn is_proper_byte(b: u8) -> bool
     ensures { result ≡ proper_byte b }
 {
-    b >= 0x21 && b <= 0x7e && b != SLASH
+    (0x21..=0x7e).contains(&b) && b != SLASH
 }
 
 // 1 to 15 proper bytes.
 pub fn is_proper(name: &[u8]) -> bool
     ensures { result ≡ proper_name name.now }
 {
-    if name.is_empty() || name.len() > NAME {
-        return false;
-    }
-    for b in name {
-        if !is_proper_byte(*b) {
-            return false;
-        }
-    }
-    true
+    !name.is_empty() && name.len() <= NAME && name.iter().all(|&b| is_proper_byte(b))
 }
 
 // The first byte that differs decides, and a name precedes every longer one that begins with it.
 pub fn precedes(a: &[u8], b: &[u8]) -> bool
     ensures { result ≡ before a.now b.now }
 {
-    for (x, y) in a.iter().zip(b.iter()) {
-        if x != y {
-            return x < y;
-        }
-    }
-    a.len() < b.len()
+    a < b
 }
 
 // A name as an entry holds it: filled up with 0x00. Past fifteen bytes a name is cut off.
@@ -57,12 +44,8 @@ impl Entry {
     pub fn name(&self) -> &[u8]
         ensures { result.now ≡ trimmed self.now.name }
     {
-        for i in 0..NAME {
-            if self.name[i] == 0 {
-                return &self.name[0..i];
-            }
-        }
-        &self.name
+        let end = self.name.iter().position(|&b| b == 0).unwrap_or(NAME);
+        &self.name[..end]
     }
 
     // A proper name, filled up with 0x00.
@@ -70,14 +53,6 @@ impl Entry {
         ensures { result ≡ well_named (entry_view self.now) }
     {
         let name = self.name();
-        if !is_proper(name) {
-            return false;
-        }
-        for i in name.len()..NAME {
-            if self.name[i] != 0 {
-                return false;
-            }
-        }
-        true
+        is_proper(name) && self.name[name.len()..].iter().all(|&b| b == 0)
     }
 }

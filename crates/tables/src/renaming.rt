@@ -27,9 +27,7 @@ impl Consistent {
             return Err(Refusal::Misspelt);
         }
         self.check_start(start, from)?;
-        let Some((kind, number)) = self.tables.item(start, from) else {
-            return Err(Refusal::Lost);
-        };
+        let (kind, number) = self.tables.item(start, from).ok_or(Refusal::Lost)?;
         let entry = self.new_entry(start, to)?;
         if goes_inside(kind, from, to) {
             return Err(Refusal::Inside);

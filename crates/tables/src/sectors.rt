@@ -16,20 +16,21 @@ fn is_whole(data: &[u8]) -> bool
     ensures { result ≡ whole_sectors «data».now }
 {
     let size = data.len();
-    size % SECTOR == 0 && size >= SECTOR && size <= PLACES * SECTOR
+    size % SECTOR == 0 && (SECTOR..=PLACES * SECTOR).contains(&size)
 }
 
 // A row of the lowest free data sectors, rising, if there are so many. Each search begins behind the sector that was found
-// last, so the map is passed over once.
+// last, so the map is passed over once. `from` stays: the free places are found by the one search that serves every slot,
+// where a chain that filters the marks would be a second one.
 fn lowest_free(tables: &Tables, count: usize) -> Option<Row>
     requires { count ≤ 16 }
     ensures { MatchOption result (enough (view tables.now) count ≡ false) (λ row. (enough (view tables.now) count ≡ true) × (row.places ≡ lowest_row (view tables.now) count)) }
 {
     let mut places = [0; PLACES];
     let mut from = FIRST_DATA as usize;
-    for i in 0..count {
+    for place in &mut places[..count] {
         let at = first_free(&tables.marks[from..LAST_DATA as usize + 1])?;
-        places[i] = (from + at) as u8;
+        *place = (from + at) as u8;
         from += at + 1;
     }
     Some(Row { places })
@@ -43,9 +44,6 @@ impl Consistent {
         if !is_whole(data) {
             return Err(Refusal::Size);
         }
-        match lowest_free(&self.tables, data.len() / SECTOR) {
-            Some(row) => Ok(row),
-            None => Err(Refusal::Sectors),
-        }
+        lowest_free(&self.tables, data.len() / SECTOR).ok_or(Refusal::Sectors)
     }
 }

@@ -15,10 +15,5 @@ pub fn first_free<T: Slot>(slots: &[T]) -> Option<usize>
     ensures value { result ≡ first T.vacant slots.now }
     ensures bound { IfSome result (λ i. i < length slots.now) }
 {
-    for (i, slot) in slots.iter().enumerate() {
-        if slot.is_free() {
-            return Some(i);
-        }
-    }
-    None
+    slots.iter().position(|slot| slot.is_free())
 }

@@ -28,9 +28,7 @@ impl Consistent {
     {
         self.check_start(start, path)?;
         let row = self.new_row(data)?;
-        let Some(number) = first_free(&self.tables.files) else {
-            return Err(Refusal::Entries);
-        };
+        let number = first_free(&self.tables.files).ok_or(Refusal::Entries)?;
         let entry = self.new_entry(start, path)?;
         let mut tables = self.tables;
         put_file(&mut tables, number, entry, row);

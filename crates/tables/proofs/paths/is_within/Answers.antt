@@ -1,37 +1,33 @@
-use Rattle.std.proofs.Common.{◌≡◌, ℕ, true, List, [], ◌∷◌, length, get_or, Some, None, sym, refl, ◌∙◌, arith}
+use Rattle.std.proofs.Common.{◌≡◌, ℕ, Bool, false, List, [], ◌∷◌, ◌++◌, length, Some, None, Option, Bor, sym, ap, ◌∙◌, arith, rules}
+use Rattle.std.specs.Option.{MatchOption, option_copied}
+use Rattle.std.specs.List.{slice_get}
+use Rattle.std.specs.Prelude.{IsTrue}
 use Rattle.std.proofs.lemmas.Slice.Eq.{strip_prefix_is}
-use Rattle.std.proofs.lemmas.Bool.{eqb-true, eqb-false}
+use Rattle.std.proofs.lemmas.Bool.{eqb-false}
+use Rattle.std.proofs.lemmas.Bool.Decides.{Decides-eqb}
+use Rattle.model.specs.Names.{names, within}
 use Rattle.tables.proofs.Cuts.{is_slash, ends-name, within_strip, within-not}
 use Rattle.tables.proofs.paths.is_within.Goals as goal
-use Rattle.std.proofs.lemmas.Bool.Decides.{Decides-eqb}
+use borrow.Author.Tests.{tests}
 
-ends-here : (bs : List ℕ) → length bs ≡ 0 → true ≡ ends-name bs
-ends-here [] e = refl
-ends-here (b ∷ bs) e = absurd (omega arith)
+not_none : {A : Type 0} (a : A) → ◌≡◌ {A = Option A} (Some a) None → ⊥
+not_none a e = let z : ◌≡◌ {A = ℕ} 0 1 = cc in omega arith
 
-goes_on : (bs : List ℕ) → (length bs ≡ 0 → ⊥) → is_slash (get_or bs 0 0) ≡ ends-name bs
-goes_on [] h = absurd (h refl)
-goes_on (b ∷ bs) h = refl
+-- the first byte of what is left decides, if there is one
+ends_first : (bs : List ℕ) (o : Option (Bor ℕ)) (r : Bool) → option_copied o ≡ slice_get bs 0 → MatchOption o (IsTrue r) (λ y. r ≡ is_slash y.now) → r ≡ ends-name bs
+ends_first [] None r e h = h
+ends_first [] (Some y) r e h = absurd (not_none y.now e)
+ends_first (b ∷ bs) None r e h = absurd (not_none b (sym e))
+ends_first (b ∷ bs) (Some y) r e h = let same : y.now ≡ b = cc in h ∙ ap is_slash same
 
-pub returns-in_default : goal.returns-in_default
-returns-in_default c =
+-- p is stripped, and what is left decides, or nothing is stripped
+stripped : (p q : List ℕ) (o : Option (Bor (List ℕ))) (r : Bool) (B : Bor (List ℕ) → Type 0) → (length p ≡ 0 → ⊥) → MatchOption o ((rest : List ℕ) → q ≡ p ++ rest → ⊥) (λ x. q ≡ p ++ x.now)
+    → MatchOption o (r ≡ false) B → ((x : Bor (List ℕ)) → B x → r ≡ ends-name x.now) → r ≡ within (names p) (names q)
+stripped p q None r B l e h f = h ∙ sym (within-not p q l e)
+stripped p q (Some x) r B l e h f = f x h ∙ sym (within_strip p q x.now l e)
+
+pub returns-else-is_empty : goal.returns-else-is_empty
+returns-else-is_empty c =
     let p = c.args.p.now in
     let q = c.args.q.now in
-    sym (within-not p q (eqb-false (length p) 0 (sym c.if-is_empty.ensures)) (strip_prefix_is Decides-eqb q p None c.in_default.ensures.cases))
-
-pub returns-then-is_empty-2 : goal.returns-then-is_empty-2
-returns-then-is_empty-2 c =
-    let p = c.args.p.now in
-    let q = c.args.q.now in
-    let rest = c.in-Some.rest in
-    c.if-is_empty-2.true
-    ∙ ends-here rest.now (eqb-true (length rest.now) 0 (sym c.if-is_empty-2.ensures))
-    ∙ sym (within_strip p q rest.now (eqb-false (length p) 0 (sym c.if-is_empty.ensures)) (strip_prefix_is Decides-eqb q p (Some rest) c.in-Some.ensures.cases))
-
-pub returns-else-is_empty-2 : goal.returns-else-is_empty-2
-returns-else-is_empty-2 c =
-    let p = c.args.p.now in
-    let q = c.args.q.now in
-    let rest = c.in-Some.rest in
-    goes_on rest.now (eqb-false (length rest.now) 0 (sym c.if-is_empty-2.ensures))
-    ∙ sym (within_strip p q rest.now (eqb-false (length p) 0 (sym c.if-is_empty.ensures)) (strip_prefix_is Decides-eqb q p (Some rest) c.in-Some.ensures.cases))
+    stripped p q c.strip_prefix.result c.is_some_and.result _ (eqb-false (length p) 0 (sym c.if-is_empty.ensures)) (strip_prefix_is Decides-eqb q p c.strip_prefix.result c.strip_prefix.ensures.cases) c.is_some_and.ensures (λ x h. search (rules, tests, ends_first))

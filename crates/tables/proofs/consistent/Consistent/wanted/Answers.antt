@@ -1,14 +1,13 @@
-use denote.Enum.Bare.{same_true, same_false}
+use denote.Enum.Bare.{same_false}
 use Rattle.model.specs.contracts.types.Kind.{the_type}
-use Rattle.std.proofs.Common.{◌≡◌, not, [], ◌∷◌, Some, None, sym, ap, ◌∙◌}
+use Rattle.std.proofs.Common.{not, [], ◌∷◌, Some, None, sym, ◌∙◌}
 use Rattle.model.specs.Refusals.{check}
 use Rattle.model.specs.Volume.{named}
-use Rattle.model.specs.declared.types.Kind.{Kind}
 use Rattle.model.specs.declared.types.Refusal.TheVariants.{Lost as lost}
 use Rattle.tables.specs.Views.{view}
 use Rattle.tables.specs.Plans.{begun, there, is_kind}
 use Rattle.tables.proofs.Choosing.{front_stopped, handed_on}
-use Rattle.tables.proofs.Items.{kind-other, kind_none, there-passed, there_lost, spelt-long}
+use Rattle.tables.proofs.Items.{kind-other, kind_none, there_lost}
 use Rattle.tables.proofs.consistent.Consistent.wanted.Goals as goal
 
 pub returns-in_err-check_start : goal.returns-in_err-check_start
@@ -22,19 +21,9 @@ returns-in_err-check_start c =
 pub returns-in_default : goal.returns-in_default
 returns-in_default c =
     let t = view c.args.self.now.tables in
-    there_lost c.args.kind t c.args.start c.args.path.now None c.in_ok-check_start.ensures.0 c.in_default.ensures.value (kind_none c.args.kind)
-
-pub returns-else-eq : goal.returns-else-eq
-returns-else-eq c =
-    let t = view c.args.self.now.tables in
     there_lost c.args.kind t c.args.start c.args.path.now (Some (c.in-Some.found, c.in-Some.number)) c.in_ok-check_start.ensures.0 c.in-Some.ensures.value (kind-other c.args.kind c.in-Some.found c.in-Some.number (same_false the_type _ _ (sym c.if-eq.ensures)))
 
-pub returns-then-eq : goal.returns-then-eq
-returns-then-eq c =
+pub returns-in_default-2 : goal.returns-in_default-2
+returns-in_default-2 c =
     let t = view c.args.self.now.tables in
-    let d = c.args.start in
-    let p = c.args.path.now in
-    let n = c.in-Some.number in
-    let begins = c.in_ok-check_start.ensures in
-    let item : named t d p ≡ Some (c.args.kind, n) = sym c.in-Some.ensures.value ∙ ap (λ (k : Kind). Some (k, n)) (same_true the_type tt c.in-Some.found c.args.kind (sym c.if-eq.ensures)) in
-    (there-passed c.args.kind t d p n begins.0 item, (item, c.in-Some.ensures.bound (spelt-long p begins.1)))
+    there_lost c.args.kind t c.args.start c.args.path.now None c.in_ok-check_start.ensures.0 (sym c.in_default.is ∙ c.item.ensures.value) (kind_none c.args.kind)
