@@ -1,43 +1,13 @@
 -- What stands before the first 0x00, and a name that is filled up with it.
-use Rattle.std.proofs.Common.{◌≡◌, ℕ, zero, suc, ◌+◌, ◌-◌, ◌<◌, ◌≤◌, min, Bool, true, false, cond, ◌&&◌, eqb, ◌⊎◌, List, [], ◌∷◌, ◌++◌, length, get_or, take, drop, replicate, sym, refl, ap, ◌∙◌, ap₂, inl, inr, arith}
-use Rattle.std.proofs.lemmas.List.{append_assoc, append-nil, at_drop_more, at_drop_all, drop-replicate, length-append, length-replicate, length-take-le, take_all, take-append-le, take_more}
-use Rattle.std.proofs.lemmas.Bool.{and_right, cases_lt, eq-eqb, ne_eqb}
+use Rattle.std.proofs.Common.{◌≡◌, ℕ, zero, suc, ◌+◌, ◌-◌, ◌<◌, ◌≤◌, min, Bool, true, false, cond, ◌&&◌, eqb, ◌⊎◌, List, [], ◌∷◌, ◌++◌, length, take, drop, replicate, sym, refl, ap, ◌∙◌, ap₂, inl, inr, arith}
+use Rattle.std.proofs.lemmas.List.{append-nil, drop-replicate, length-append, length-replicate, take_all, take-append-le}
+use Rattle.std.proofs.lemmas.Bool.{and_right, cases_lt, eq-eqb}
 use Rattle.model.specs.Image.{all}
 use Rattle.model.specs.Names.{same_name, padded}
 use Rattle.model.specs.Tables.{up_to_blank}
 
 abbrev pub is_blank : ℕ → Bool
 is_blank b = eqb b 0
-
--- a loop up to the first 0x00 ------------------------------------------------------------------------
-
--- none of the first i is 0x00
-abbrev pub Unblank : List ℕ → ℕ → Type 0
-Unblank xs i = up_to_blank xs ≡ take i xs ++ up_to_blank (drop i xs)
-
--- the laws that the loop's invariant brings along
-pub record Blanks (xs : List ℕ) : Type 0 where
-  pub more : (i : ℕ) → i < length xs → Unblank xs i → (get_or xs i 0 ≡ 0 → ⊥) → Unblank xs (i + 1)
-  pub here : (i : ℕ) → i < length xs → Unblank xs i → get_or xs i 0 ≡ 0 → (up_to_blank xs ≡ take i xs) × (length (up_to_blank xs) ≡ i)
-  pub over : (i : ℕ) → length xs ≤ i → Unblank xs i → up_to_blank xs ≡ xs
-
-pub blanks : (xs : List ℕ) → Blanks xs
-blanks xs =
-    record {
-      more =
-          λ i l s h.
-          at_place i l s false (ne_eqb (get_or xs i 0) 0 h)
-          ∙ sym (append_assoc (take i xs) (get_or xs i 0 ∷ []) (up_to_blank (drop (i + 1) xs)))
-          ∙ ap (λ ys. ys ++ up_to_blank (drop (i + 1) xs)) (sym (take_more xs i 0 l));
-      here =
-          λ i l s h.
-          let front = at_place i l s true (eq-eqb (get_or xs i 0) 0 h) ∙ append-nil (take i xs) in
-          (front, ap length front ∙ length-take-le i xs (omega arith));
-      over = λ i l s. s ∙ ap (λ ys. take i xs ++ ys) (at_drop_all up_to_blank xs i l) ∙ append-nil (take i xs) ∙ take_all i xs l;
-    }
-  where
-    at_place : (i : ℕ) → i < length xs → Unblank xs i → (b : Bool) → eqb (get_or xs i 0) 0 ≡ b → up_to_blank xs ≡ take i xs ++ cond b [] (get_or xs i 0 ∷ up_to_blank (drop (i + 1) xs))
-    at_place i l s b h = s ∙ ap (λ ys. take i xs ++ ys) (at_drop_more up_to_blank xs i 0 l) ∙ ap (λ c. take i xs ++ cond c [] (get_or xs i 0 ∷ up_to_blank (drop (i + 1) xs))) h
 
 -- filled up with 0x00 -----------------------------------------------------------------------------------
 

@@ -23,7 +23,7 @@ impl Tables {
         }
     }
 
-    // Marks the sectors of a file's row. A `for` with an index walks its places: a rule of the project.
+    // Marks the sectors of a file's row, place by place: by a `for` with an index, a rule of the project.
     pub(crate) fn mark_row(&mut self, number: u8, mark: Mark)
         ensures { view self.new ≡ record { marks = marked (used (row (view self.old) number)) mark.0 (view self.old).marks; dirs = (view self.old).dirs; files = (view self.old).files; rows = (view self.old).rows } }
     {
