@@ -4,6 +4,7 @@
 ghost use Rattle.std.specs.Prelude.{◌≡◌, true, length};
 ghost use Rattle.model.specs.Image.{Image, whole, access, filled, put};
 
+pub use model::sizes::SECTOR;
 use model::types::Fault;
 
 mod faults;
@@ -16,9 +17,6 @@ mod stretch;
 #[cfg(test)]
 mod tests_bottoms;
 pub mod window;
-
-// The bytes of a sector.
-pub const SECTOR: usize = 512;
 
 // The most sectors that a store has, and the most dead numbers or pairs that one is told of.
 pub const MOST_SECTORS: usize = 65_535;

@@ -1,7 +1,7 @@
 // The numbers of the format that the tables are built on.
 
-// The bytes of a sector, and so the marks of the allocation map.
-pub const SECTOR: usize = 512;
+// A mark of the allocation map for each of a sector's bytes.
+pub use model::sizes::SECTOR;
 
 // The entries of a table, and so the rows.
 pub const ENTRIES: usize = 32;
