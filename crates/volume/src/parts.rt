@@ -87,7 +87,8 @@ pub(crate) fn write_contents<S: Store>(
 {
     let row = contents.row;
     let mut rest = contents.bytes;
-    // by index: a rule of the project has a row's places walked so
+    // by index: a rule of the project has a row's places walked so. The `else` is never taken, since the row has a place for
+    // each sector of the contents; with `as_chunks` and an index in its stead the proof did not close.
     for k in 0..row.count() {
         let Some((sector, more)) = rest.split_first_chunk::<SECTOR>() else {
             return Ok(());

@@ -77,6 +77,7 @@ pub(crate) fn dead_sectors<S: Store>(store: &mut S) -> [bool; 256]
 {
     let mut dead = [false; 256];
     let mut buffer = [0; SECTOR];
+    // no index: the number that the store is asked for. A chain would call a closure that changes the store at each step.
     for s in u16::from(FIRST_DATA)..256 {
         dead[usize::from(s)] = store.read(s, &mut buffer).is_err();
     }

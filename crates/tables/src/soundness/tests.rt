@@ -92,6 +92,7 @@ fn sample() -> Sectors {
 fn chain() -> Sectors {
     let mut s = blank();
     s.name(Part::Dirs, 0, b"\xffa");
+    // no index: the number is what is written
     for i in 1..ENTRIES {
         s.put(Part::Dirs, ENTRY * i, i as u8 - 1);
         s.put(Part::Dirs, ENTRY * i + 1, b'a');
