@@ -105,9 +105,7 @@ fn sound_tables(rt: HostRuntime) -> Result<(), Fail> {
     for sectors in [blank(), sample(), chain()] {
         let tables = sectors.tables();
         assert!(rt; tables.is_sound(&dead()));
-        let Some(admitted) = Consistent::admit(tables, &dead()) else {
-            return Err(Fail::new("refused"));
-        };
+        let admitted = Consistent::admit(tables, &dead()).ok_or_else(|| Fail::new("refused"))?;
         assert!(rt; admitted.tables().map_sector() == sectors.map);
         assert!(rt; admitted.tables().rows_sector() == sectors.rows);
         assert!(rt; Consistent::admit(tables, &[true; 256]).is_none());
