@@ -1,4 +1,5 @@
 // What a crew sees of a refusal: its number and its word. A store's fault becomes a refusal, whole.
+// Number and word are methods: `u8::from(refusal)` would not say which number, and a console prints the two apart too.
 ghost use Rattle.std.specs.Prelude.{◌≡◌};
 ghost use Rattle.model.specs.Refusals.{number as number_of, word as word_of, dead};
 

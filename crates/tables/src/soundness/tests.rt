@@ -4,6 +4,7 @@ use crate::sizes::{ENTRIES, ENTRY, SECTOR};
 use crate::types::Tables;
 use std::test::Fail;
 
+// Which of the four sectors: an enum, since a row of a table of tests holds no closure of a `&mut`.
 #[derive(Clone, Copy)]
 enum Part {
     Map,
