@@ -105,6 +105,7 @@ fn spoil(chip: &mut Spares<Flat>, damage: &Damage) {
 
 // Draws the allocation map as sixteen rows of sixteen letters.
 fn draw<S: Store>(rt: &HostRuntime, volume: &Volume<S>) -> anyhow::Result<()> {
+    // the refusal is printed, and the tour goes on
     let map = match volume.map() {
         Ok(map) => map,
         Err(refusal) => return verdict(rt, "The map", Err(refusal)),

@@ -9,7 +9,8 @@ use crate::types::{Entry, Mark, Tables};
 use model::types::Kind;
 
 impl Tables {
-    // Puts an entry into the table of its kind; the other entries stay.
+    // Puts an entry into the table of its kind; the other entries stay. Past the table nothing changes, here and below, as
+    // the definitions have it: so a number stays a byte of the format, and no caller owes a bound.
     pub(crate) fn put_entry(&mut self, kind: Kind, number: u8, entry: Entry)
         ensures { view self.new ≡ renamed (view self.old) (Some (kind, number)) (entry_view entry) }
     {

@@ -29,6 +29,7 @@ impl Consistent {
         ensures { Passes (there kind (view self.now.tables) start path.now) (λ n. (named (view self.now.tables) start path.now ≡ Some (kind, n)) × (n < 32)) result }
     {
         self.check_start(start, path)?;
+        // a guard: `filter`, `map` and `ok_or` would take the pair apart twice
         match self.tables.item(start, path) {
             Some((found, number)) if found == kind => Ok(number),
             _ => Err(Refusal::Lost),

@@ -4,7 +4,7 @@ ghost use Rattle.model.specs.Tables.{data_sector, used, member, proper_row};
 ghost use Rattle.tables.specs.Rules.{told, alive_by, filled_up, unclaimed, Claimed, due, marks_due, rows_sound};
 ghost use Rattle.tables.specs.Views.{view};
 
-use crate::sizes::{FIRST_DATA, LAST_DATA, PLACES};
+use crate::sizes::{FIRST_DATA, LAST_DATA, NAMED, PLACES};
 use crate::types::{Mark, Row, Tables};
 
 impl Row {
@@ -26,8 +26,8 @@ impl Row {
 // Of the sectors 0x00 to 0xFF, which are dead, and which the rows so far have claimed.
 #[derive(Clone, Copy)]
 pub(crate) struct Claims {
-    dead: [bool; 256],
-    claimed: [bool; 256],
+    dead: [bool; NAMED],
+    claimed: [bool; NAMED],
 }
 
 impl Claims {
@@ -70,12 +70,12 @@ impl Claims {
 
 impl Tables {
     // The sectors that live files' rows name, if each such row is proper and no sector is named twice.
-    pub(crate) fn claims(&self, dead: &[bool; 256]) -> Option<Claims>
+    pub(crate) fn claims(&self, dead: &[bool; NAMED]) -> Option<Claims>
         ensures { MatchOption result (rows_sound (alive_by dead.now) (view self.now) ≡ false) (λ c. (rows_sound (alive_by dead.now) (view self.now) ≡ true) × (c.dead ≡ dead.now) × Claimed (view self.now) c.claimed) }
     {
         let mut claims = Claims {
             dead: *dead,
-            claimed: [false; 256],
+            claimed: [false; NAMED],
         };
         for (file, row) in self.files.iter().zip(&self.rows) {
             if file.is_live() {

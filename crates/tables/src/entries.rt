@@ -45,6 +45,7 @@ impl From<[u8; ENTRY]> for Entry {
     ghost from_gives = { λ bytes e. entry_view e ≡ entry bytes };
 
     fn from(bytes: [u8; ENTRY]) -> Entry {
+        // the `else` is never taken: the check does not cover `let [parent, name @ ..] = bytes` of an array
         let [parent, rest @ ..] = bytes.as_slice() else {
             return Entry::FREE;
         };

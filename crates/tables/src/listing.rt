@@ -18,10 +18,8 @@ use model::types::{Kind, Refusal};
 fn lesser<'a>(best: Option<Listed<'a>>, item: Listed<'a>) -> Listed<'a>
     ensures { Some (listed_view result) ≡ lesser_of (option_map listed_view best.entry) (Some (listed_view item.entry)) }
 {
-    match best {
-        Some(found) if precedes(found.name, item.name) => found,
-        _ => item,
-    }
+    best.filter(|found| precedes(found.name, item.name))
+        .unwrap_or(item)
 }
 
 // The lesser of what was found so far and the least of these entries in the directory whose name comes after `after`.
@@ -34,6 +32,7 @@ fn least<'a>(
 ) -> Option<Listed<'a>>
     ensures { (seen : List Item) → option_map listed_view best.entry ≡ least_after after.now seen → option_map listed_view result ≡ least_after after.now (seen ++ children kind dir 0 (entries_view entries.now)) }
 {
+    // `min_by` keeps the first of equals, and of two with one name the last is meant
     (0..ENTRIES as u8)
         .zip(entries.iter())
         .filter(|(_, entry)| entry.is_live() && entry.parent == dir)

@@ -40,7 +40,7 @@ impl Tables {
     }
 
     // The directory that is to hold the last name of a path, and that name.
-    // Start and path stay two parameters, here and in each call: POSIX's `*at` calls take them apart, and `rename` has one
+    // Start and path stay two parameters, here and in each call: system calls take them apart, and `rename` has one
     // start with two paths.
     pub fn place<'a>(&self, start: u8, path: &'a [u8]) -> Option<(u8, &'a [u8])>
         ensures { MatchOption result (holder_of (view self.now) start (names path.now) ≡ None) (λ x. (holder_of (view self.now) start (names path.now) ≡ Some x.0) × (x.1.now ≡ last (names path.now))) }

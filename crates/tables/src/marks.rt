@@ -4,7 +4,7 @@ ghost use Rattle.tables.specs.Rules.{unused_mark};
 ghost use Rattle.tables.specs.Drawing.{mark_text};
 ghost use Rattle.tables.specs.Views.{marks_view};
 
-use crate::sizes::{FIRST_DATA, LAST_DATA, SECTOR};
+use crate::sizes::{FIRST_DATA, LAST_DATA, NAMED, SECTOR};
 use crate::slots::Slot;
 use crate::types::Mark;
 use std::fmt;
@@ -17,7 +17,7 @@ impl Mark {
     pub const DEAD: Mark = Mark(0xfe);
 
     // The mark of a sector that no file has: reserved, dead or free. `dead` tells of the sectors 0x00 to 0xFF.
-    pub fn unused(sector: usize, dead: &[bool; 256]) -> Mark
+    pub fn unused(sector: usize, dead: &[bool; NAMED]) -> Mark
         ensures { result.0 ≡ unused_mark dead.now sector }
     {
         if sector < FIRST_DATA as usize {
@@ -34,7 +34,7 @@ impl Slot for Mark {
     ghost vacant = { λ m. (m.0 == 0) };
 
     fn is_free(&self) -> bool {
-        self.0 == Mark::FREE.0
+        *self == Mark::FREE
     }
 }
 

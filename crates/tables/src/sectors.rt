@@ -20,8 +20,8 @@ fn is_whole(data: &[u8]) -> bool
 }
 
 // A row of the lowest free data sectors, rising, if there are so many. Each search begins behind the sector that was found
-// last, so the map is passed over once. `from` stays: the free places are found by the one search that serves every slot,
-// where a chain that filters the marks would be a second one.
+// last, so the map is passed over once. `from` stays: it is a rule of the project that one search finds the free place
+// of every kind of slot, and a chain that filters the marks would be a second one.
 fn lowest_free(tables: &Tables, count: usize) -> Option<Row>
     requires { count ≤ 16 }
     ensures { MatchOption result (enough (view tables.now) count ≡ false) (λ row. (enough (view tables.now) count ≡ true) × (row.places ≡ lowest_row (view tables.now) count)) }

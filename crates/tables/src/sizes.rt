@@ -1,6 +1,6 @@
 // The numbers of the format that the tables are built on.
 
-// A mark of the allocation map for each of a sector's bytes.
+// The bytes of a sector; the allocation map has a mark for each.
 pub use model::sizes::SECTOR;
 
 // The entries of a table, and so the rows.
@@ -20,8 +20,11 @@ pub const FIRST_DATA: u8 = 0x0b;
 
 pub const LAST_DATA: u8 = 0xff;
 
-// The root as a parent and as a start.
+// The root as a parent and as a start: a number beside those of directories, since the format keeps it in the same byte.
 pub const ROOT: u8 = 0xff;
 
 // The byte between the names of a path.
 pub const SLASH: u8 = 0x2f;
+
+// The sectors that a byte can name: 0x00 to 0xFF.
+pub const NAMED: usize = 256;

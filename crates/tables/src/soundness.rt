@@ -1,11 +1,11 @@
 // Whether tables are sound, decided in one pass over each table; only the 64 entries are compared each with each.
-ghost use Rattle.std.specs.Prelude.{◌≡◌, true, not, ◌++◌, slice_index_or};
+ghost use Rattle.std.specs.Prelude.{◌≡◌, not, ◌++◌};
 ghost use Rattle.model.specs.Sizes.{entry_count};
 ghost use Rattle.model.specs.Tables.{all, proper_entry, climbs, same_place, unshared, sound_by};
-ghost use Rattle.tables.specs.Rules.{rooted, entries_sound};
+ghost use Rattle.tables.specs.Rules.{alive_by, rooted, entries_sound};
 ghost use Rattle.tables.specs.Views.{view, entry_view, entries_view};
 
-use crate::sizes::{ENTRIES, ROOT};
+use crate::sizes::{ENTRIES, NAMED, ROOT};
 use crate::types::{Entry, Tables};
 
 #[cfg(test)]
@@ -43,8 +43,8 @@ fn are_apart(entries: &[Entry]) -> bool
 
 impl Tables {
     // Sound where `dead` tells which of the sectors 0x00 to 0xFF are dead.
-    pub fn is_sound(&self, dead: &[bool; 256]) -> bool
-        ensures { result ≡ sound_by (λ s. not (slice_index_or dead.now s true)) (view self.now) }
+    pub fn is_sound(&self, dead: &[bool; NAMED]) -> bool
+        ensures { result ≡ sound_by (alive_by dead.now) (view self.now) }
     {
         self.claims(dead).is_some_and(|claims| self.marks_are_due(&claims)
             && self.entries_are_sound())
@@ -74,7 +74,8 @@ impl Tables {
     }
 
     // The parents lead from `dir` to the root; more steps than there are directories go in a ring.
-    // The `for` counts steps, no index. `(0..ENTRIES).try_fold(dir, ..)` would pass off the arrival as a failure.
+    // The `for` counts the 32 steps of the rule, no index: `try_fold` would pass off the arrival as a failure, and
+    // `successors` with `take` and `any` would hide where the way breaks off.
     fn climbs(&self, dir: u8) -> bool
         ensures { result ≡ climbs (view self.now).dirs entry_count dir }
     {

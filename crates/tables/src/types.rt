@@ -5,7 +5,7 @@ ghost use Rattle.std.specs.Prelude.{◌≡◌, length};
 use crate::sizes::{ENTRIES, NAME, PLACES, SECTOR};
 
 // A directory or a file: the number of the directory that holds it, and the name, filled up with 0x00.
-// The parent is a number and no reference, as the format has it.
+// The parent is a number and no reference, and the name ends at its first 0x00, as the format has it.
 #[derive(Clone, Copy, PartialEq, Eq, Debug)]
 pub struct Entry {
     pub parent: u8,
@@ -18,7 +18,7 @@ pub struct Entry {
 #[derive(Clone, Copy, PartialEq, Eq, Debug)]
 pub struct Mark(pub u8);
 
-// The numbers of a file's sectors; the used places are those before the first 0x00.
+// The numbers of a file's sectors; the used places are those before the first 0x00, as the format has it.
 #[derive(Clone, Copy, PartialEq, Eq, Debug)]
 pub struct Row {
     pub places: [u8; PLACES],
@@ -26,7 +26,7 @@ pub struct Row {
 }
 
 // A file's row stands in an array of its own: the two lie in two sectors that are written apart, and with an array of
-// pairs one search would no longer serve directories and files.
+// pairs one look-up (`child`) would no longer serve directories and files.
 #[derive(Clone, Copy)]
 pub struct Tables {
     pub marks: [Mark; SECTOR],

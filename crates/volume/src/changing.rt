@@ -16,8 +16,8 @@ use store::Store;
 use tables::consistent::Consistent;
 
 impl<S: Store> Volume<S> {
-    // Writes a new file's contents and these of the new tables, in this order, keeps the new tables, and hands on what the
-    // call answers.
+    // Writes a new file's contents, then the new tables that `parts` names, keeps the new tables, and hands on what the call
+    // answers.
     fn commit<T: Drop>(
         &mut self,
         next: Consistent,

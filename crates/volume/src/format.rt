@@ -9,7 +9,7 @@ ghost use Rattle.volume.specs.Blank.{Bare};
 use crate::sectors::{DIRS, FILES, MAP, ROWS, dead_sectors, load_checked};
 use model::types::Refusal;
 use store::Store;
-use tables::sizes::SECTOR;
+use tables::sizes::{NAMED, SECTOR};
 use tables::types::Mark;
 
 // A table with nothing in it.
@@ -31,9 +31,10 @@ pub fn format<S: Store>(store: &mut S) -> Result<(), Refusal>
 }
 
 // The map with nothing used.
-fn blank_map(dead: &[bool; 256]) -> [u8; SECTOR]
+fn blank_map(dead: &[bool; NAMED]) -> [u8; SECTOR]
     ensures { result ≡ from_to 0 512 (unused_mark dead.now) }
 {
+    // with `array::from_fn` the proof did not close: its contract leaves open what the closure is at each call
     let mut map = BLANK;
     for (sector, byte) in map.iter_mut().enumerate() {
         *byte = Mark::unused(sector, dead).0;

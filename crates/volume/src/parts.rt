@@ -56,7 +56,7 @@ pub(crate) struct Contents<'a> {
 }
 
 impl Contents<'_> {
-    // Of a call that makes no file.
+    // Of a call that makes no file: no places and no bytes. (An `Option` would give `commit` a branch more.)
     pub const NONE: Contents<'static> = Contents {
         row: Row::EMPTY,
         bytes: &[],

@@ -9,10 +9,11 @@ ghost use Rattle.volume.specs.Writing.{Filled};
 
 use model::types::{Fault, Refusal};
 use store::Store;
-use tables::sizes::{FIRST_DATA, SECTOR};
+use tables::sizes::{FIRST_DATA, NAMED, SECTOR};
 use tables::types::{Row, Tables};
 
-// The sectors of the four tables, and the sectors that a volume needs.
+// The sectors of the four tables, and the sectors that a volume needs. `load` and `format` name all four, in their order;
+// `Part` names the one that a call writes.
 pub const MAP: u16 = 0x100;
 
 pub const DIRS: u16 = 0x101;
@@ -71,13 +72,13 @@ pub(crate) fn load_checked<S: Store>(store: &mut S) -> Result<Tables, Refusal>
 }
 
 // Which data sectors are dead: each is read once.
-pub(crate) fn dead_sectors<S: Store>(store: &mut S) -> [bool; 256]
+pub(crate) fn dead_sectors<S: Store>(store: &mut S) -> [bool; NAMED]
     ensures dead { Tells result (S.image store.old) }
     ensures image { S.image store.new ≡ S.image store.old }
 {
-    let mut dead = [false; 256];
+    let mut dead = [false; NAMED];
     let mut buffer = [0; SECTOR];
-    // no index: the number that the store is asked for. A chain would call a closure that changes the store at each step.
+    // by number, which the store is asked for: `iter_mut` with `enumerate` and `skip` would count the reserved ones too
     for s in u16::from(FIRST_DATA)..256 {
         dead[usize::from(s)] = store.read(s, &mut buffer).is_err();
     }

@@ -12,5 +12,5 @@ use tables::consistent::Consistent;
 pub struct Volume<S: Store> {
     pub(crate) store: S,
     pub(crate) tables: Option<Consistent>,
-    ghost kept: { ForSome tables (λ c. InStep (Some (view c.tables)) (S.image store)) },
+    pub ghost kept: { ForSome tables (λ c. InStep (Some (view c.tables)) (S.image store)) },
 }

@@ -4,7 +4,7 @@ use crate::sizes::{ENTRIES, ENTRY, SECTOR};
 use crate::types::Tables;
 use std::test::Fail;
 
-// Which of the four sectors: an enum, since a row of a table of tests holds no closure of a `&mut`.
+// Which of the four sectors (`volume`, which has such an enum too, stands above this crate): an enum, since a row of a table of tests holds no closure of a `&mut`.
 #[derive(Clone, Copy)]
 enum Part {
     Map,
@@ -93,7 +93,7 @@ fn sample() -> Sectors {
 fn chain() -> Sectors {
     let mut s = blank();
     s.name(Part::Dirs, 0, b"\xffa");
-    // no index: the number is what is written
+    // the number is what is written, and where
     for i in 1..ENTRIES {
         s.put(Part::Dirs, ENTRY * i, i as u8 - 1);
         s.put(Part::Dirs, ENTRY * i + 1, b'a');
