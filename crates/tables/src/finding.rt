@@ -15,6 +15,7 @@ impl Consistent {
     pub fn find(&self, start: u8, path: &[u8]) -> Result<(Kind, u8), Refusal>
         ensures { Decided (view self.now.tables) (find start path.now) (λ x. named (view self.now.tables) start path.now ≡ Some x) result }
     {
+        // as `check_start`, but the empty path passes: one function for both would take a test of spelling as a bool
         if !is_spelt_or_empty(path) {
             return Err(Refusal::Misspelt);
         }

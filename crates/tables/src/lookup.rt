@@ -59,7 +59,7 @@ impl Tables {
         self.place(start, path).map(|(dir, _)| dir)
     }
 
-    // The item of a name in a directory.
+    // The item of a name in a directory, by kind and number: a pair, as the definitions answer, and only taken apart.
     pub fn item_in(&self, dir: u8, name: &[u8]) -> Option<(Kind, u8)>
         ensures value { result ≡ item_in (view self.now) (Some dir) name.now }
         ensures bound { IfSome result (λ x. x.1 < 32) }

@@ -1,5 +1,5 @@
-// A sector as pieces of sixteen bytes, each an entry's or a row's. What entries and rows share is here: one `decode` for
-// both, over `From`, would return an array of a type parameter, which owes that it fits in memory.
+// A sector as pieces of sixteen bytes, each an entry's or a row's. What entries and rows share is here. Their `decode` and
+// `encode` are a line each: one for both would be no shorter, and owe that an array of a type parameter fits in memory.
 ghost use Rattle.std.specs.Prelude.{◌≡◌};
 ghost use Rattle.model.specs.Tables.{parts, rows_bytes};
 

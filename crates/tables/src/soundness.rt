@@ -16,7 +16,7 @@ impl Entry {
     fn shares_place(&self, other: &Entry) -> bool
         ensures { result ≡ same_place (entry_view self.now) (entry_view other.now) }
     {
-        self.is_live() && self.parent == other.parent && self.name == other.name
+        self.is_live() && self == other
     }
 
     // None of the others shares this entry's place.
