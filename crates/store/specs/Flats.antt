@@ -42,11 +42,9 @@ module _ (buffer deads : List ℕ) where
   flat_look s b l e =
       look_laid (flat_fits buffer deads) count (flat_sector buffer deads) s l ∙ ap (λ x. seen (cond x (dead s 0) (bytes (stretch buffer s)))) e
 
-  pub flat_dead : (s : ℕ) → s < length (flat_image buffer deads) → member s deads ≡ true → access (flat_image buffer deads) s ≡ Err (dead_at s 0)
-  flat_dead s l e = ap done_or_fault (flat_look s true l e)
-
-  pub flat_live : (s : ℕ) → s < length (flat_image buffer deads) → member s deads ≡ false → access (flat_image buffer deads) s ≡ Ok tt
-  flat_live s l e = ap done_or_fault (flat_look s false l e)
+  pub flat_access : (s : ℕ) (b : Bool) → member s deads ≡ b → s < length (flat_image buffer deads) → access (flat_image buffer deads) s ≡ cond b (Err (dead_at s 0)) (Ok tt)
+  flat_access s true e l = ap done_or_fault (flat_look s true l e)
+  flat_access s false e l = ap done_or_fault (flat_look s false l e)
 
   -- an accepted sector has room in the buffer, and its stretch stands there
   module _ (s : ℕ) (h : access (flat_image buffer deads) s ≡ Ok tt) where
@@ -60,7 +58,7 @@ module _ (buffer deads : List ℕ) where
     alive = go (cases_Bool (member s deads))
       where
         go : (member s deads ≡ true) ⊎ (member s deads ≡ false) → member s deads ≡ false
-        go (inl e) = absurd (never_both (dead_at s 0) (sym (flat_dead s inside e) ∙ h))
+        go (inl e) = absurd (never_both (dead_at s 0) (sym (flat_access s true e inside) ∙ h))
         go (inr e) = e
 
     pub flat_seen : look (flat_image buffer deads) s ≡ Ok (stretch buffer s)

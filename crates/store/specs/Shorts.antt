@@ -1,5 +1,5 @@
 -- The short store: what stands at a sector, and what a write to its stretch makes of the image.
-use Rattle.std.specs.Prelude.{◌≡◌, ℕ, ◌+◌, ◌-◌, ◌*◌, ◌<◌, ◌≤◌, Bool, true, false, cond, ◌⊎◌, List, length, Ok, Err, ◌==◌, ◌≢◌, nat_le, nat_lt, refl}
+use Rattle.std.specs.Prelude.{◌≡◌, ℕ, ◌+◌, ◌-◌, ◌*◌, ◌<◌, ◌≤◌, Bool, true, false, cond, not, ◌⊎◌, List, length, Ok, Err, ◌==◌, ◌≢◌, nat_le, nat_lt, refl}
 use Rattle.std.proofs.Common.{sym, ap, subst, ◌∙◌, inl, inr, arith}
 use Rattle.std.proofs.lemmas.Bool.{eqb-true, eq-eqb, ltb-true, leb-true, lt-ltb, le-ltb, or_cases, cases_Bool}
 use Rattle.model.specs.Sizes.{most_sectors}
@@ -68,11 +68,9 @@ module _ (buffer : List ℕ) where
   short_look s b l e =
       look_laid (short_fits buffer) short_size (short_sector buffer) s l ∙ ap (λ x. seen (cond x (bytes (stretch buffer (short_place s))) (dead s 0))) e
 
-  pub short_dead : (s : ℕ) → s < length (short_image buffer) → short_lives s ≡ false → access (short_image buffer) s ≡ Err (dead_at s 0)
-  short_dead s l e = ap done_or_fault (short_look s false l e)
-
-  pub short_live : (s : ℕ) → s < length (short_image buffer) → short_lives s ≡ true → access (short_image buffer) s ≡ Ok tt
-  short_live s l e = ap done_or_fault (short_look s true l e)
+  pub short_access : (s : ℕ) (b : Bool) → short_lives s ≡ b → s < length (short_image buffer) → access (short_image buffer) s ≡ cond (not b) (Err (dead_at s 0)) (Ok tt)
+  short_access s true e l = ap done_or_fault (short_look s true l e)
+  short_access s false e l = ap done_or_fault (short_look s false l e)
 
   -- an accepted sector has room in the buffer, and its stretch stands there
   module _ (s : ℕ) (h : access (short_image buffer) s ≡ Ok tt) where
@@ -84,7 +82,7 @@ module _ (buffer : List ℕ) where
       where
         go : (short_lives s ≡ true) ⊎ (short_lives s ≡ false) → short_lives s ≡ true
         go (inl e) = e
-        go (inr e) = absurd (never_both (dead_at s 0) (sym (short_dead s inside e) ∙ h))
+        go (inr e) = absurd (never_both (dead_at s 0) (sym (short_access s false e inside) ∙ h))
 
     pub short_room : 512 * short_place s + 512 ≤ length buffer
     short_room = let within = inside_laid (short_fits buffer) short_size (short_sector buffer) s inside in room s within.0 within.1 alive

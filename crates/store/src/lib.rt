@@ -7,6 +7,7 @@ ghost use Rattle.model.specs.Image.{Image, whole, access, filled, put};
 pub use model::sizes::SECTOR;
 use model::types::Fault;
 
+mod bottom;
 mod faults;
 pub mod flat;
 mod layer;

@@ -1,14 +1,14 @@
 // The store of two buffers at work.
-ghost use Rattle.std.specs.Prelude.{◌≡◌, length, Ok};
-ghost use Rattle.model.specs.Image.{access, filled, put};
+ghost use Rattle.std.specs.Prelude.{◌≡◌};
 ghost use Rattle.store.specs.Bottoms.{pair_of};
 ghost use Rattle.store.specs.Stores.{fit_answer, pair_fits, pair_image};
 ghost use Rattle.store.specs.Pairs.{pair_whole};
 
-use super::Pair;
-use crate::faults::{fit, here};
+use super::{Pair, PairBuffers};
+use crate::bottom::{Bottom, Keeping};
+use crate::faults::fit;
 use crate::{SECTOR, Store, stretch};
-use model::types::{Cause, Fault, Refusal};
+use model::types::Refusal;
 
 // The most sectors of each of the two buffers.
 const MOST_OF_PAIR: usize = 32_767;
@@ -23,45 +23,36 @@ impl Pair {
 
     // Takes the two buffers as a store. What does not fit is a store with no sector.
     pub fn lay(even: Vec<u8>, odd: Vec<u8>) -> Pair
-        ensures bytes { (result.even.items ≡ even.items) × (result.odd.items ≡ odd.items) }
-        ensures image { pair_of result ≡ pair_image even.items odd.items }
+        ensures bytes { (result.buffers.even.items ≡ even.items) × (result.buffers.odd.items ≡ odd.items) }
+        ensures image { ⟦<Pair as Store>⟧.image result ≡ pair_image even.items odd.items }
     {
-        let sectors = Pair::count(&even, &odd);
-        Pair { even, odd, sectors }
+        Bottom::over(PairBuffers { even, odd })
     }
 
     // Hands the buffers back, the even one first, with the bytes that the store kept its sectors in.
     pub fn into_buffers(self) -> (Vec<u8>, Vec<u8>)
-        ensures bytes { (result.0.items ≡ self.even.items) × (result.1.items ≡ self.odd.items) }
-        ensures image { pair_of self ≡ pair_image result.0.items result.1.items }
+        ensures bytes { (result.0.items ≡ self.buffers.even.items) × (result.1.items ≡ self.buffers.odd.items) }
+        ensures image { ⟦<Pair as Store>⟧.image self ≡ pair_image result.0.items result.1.items }
     {
-        let Pair { even, odd, .. } = self;
+        let PairBuffers { even, odd } = self.into_inner();
         (even, odd)
     }
+}
 
-    // The sectors of what is laid.
-    fn count(even: &[u8], odd: &[u8]) -> u16
-        ensures { result ≡ length (pair_image even.now odd.now) }
-    {
-        Pair::fits(even, odd).map_or(0, |()| (2 * (even.len() / SECTOR)) as u16)
+impl Keeping for PairBuffers {
+    ghost image = { pair_of };
+
+    ghost wholeness = { λ b. pair_whole b.even.items b.odd.items };
+
+    fn sectors(&self) -> u16 {
+        Pair::fits(&self.even, &self.odd).map_or(0, |()| (2 * (self.even.len() / SECTOR)) as u16)
     }
 
-    // What a read and a write of the sector answer.
-    fn check(&self, sector: u16) -> Result<(), Fault>
-        ensures { result ≡ access (pair_of self.now) sector }
-    {
-        if sector >= self.size() {
-            Err(here(Cause::PastEnd, sector))
-        } else {
-            Ok(())
-        }
+    fn is_dead(&self, _sector: u16) -> bool {
+        false
     }
 
-    // Fills the buffer from a sector that was checked.
-    fn fill(&self, sector: u16, buffer: &mut [u8; SECTOR])
-        requires { access (pair_of self.now) sector ≡ Ok tt }
-        ensures { buffer.new ≡ filled (pair_of self.now) sector buffer.old }
-    {
+    fn fill(&self, sector: u16, buffer: &mut [u8; SECTOR]) {
         let k = usize::from(sector / 2);
         if sector % 2 == 0 {
             stretch::copy_out(&self.even, k, buffer);
@@ -70,40 +61,12 @@ impl Pair {
         }
     }
 
-    // Replaces the bytes of a sector that was checked.
-    fn replace(&mut self, sector: u16, bytes: &[u8; SECTOR])
-        requires { access (pair_of self.old) sector ≡ Ok tt }
-        ensures { pair_of self.new ≡ put (pair_of self.old) sector bytes.now }
-    {
+    fn replace(&mut self, sector: u16, bytes: &[u8; SECTOR]) {
         let k = usize::from(sector / 2);
         if sector % 2 == 0 {
             stretch::copy_in(&mut self.even, k, bytes);
         } else {
             stretch::copy_in(&mut self.odd, k, bytes);
         }
-    }
-}
-
-// (The other bottom stores read and write by the same words. One impl for all three, `impl<B: Bottom> Store for B`, was
-// tried: under it no proof closes of a layer or a volume whose ghost field names what the store below means.)
-impl Store for Pair {
-    ghost image = { pair_of };
-
-    ghost wholeness = { λ s. pair_whole s.even.items s.odd.items };
-
-    fn size(&self) -> u16 {
-        self.sectors
-    }
-
-    fn read(&mut self, sector: u16, buffer: &mut [u8; SECTOR]) -> Result<(), Fault> {
-        self.check(sector)?;
-        self.fill(sector, buffer);
-        Ok(())
-    }
-
-    fn write(&mut self, sector: u16, bytes: &[u8; SECTOR]) -> Result<(), Fault> {
-        self.check(sector)?;
-        self.replace(sector, bytes);
-        Ok(())
     }
 }

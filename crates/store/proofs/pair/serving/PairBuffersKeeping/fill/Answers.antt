@@ -2,7 +2,7 @@ use Rattle.std.proofs.Common.{◌/◌, true, false, vec_items}
 use Rattle.store.specs.Bottoms.{pair_of}
 use Rattle.store.specs.Pairs.{is_even, is_odd, pair_room, pair_seen}
 use Rattle.store.specs.Stretches.{room_at, filled_from}
-use Rattle.store.proofs.pair.Pair.fill.Goals as goal
+use Rattle.store.proofs.pair.serving.PairBuffersKeeping.fill.Goals as goal
 
 pub copy_out-requires : goal.copy_out-requires
 copy_out-requires c =

@@ -3,7 +3,7 @@ use Rattle.store.specs.Bottoms.{short_of}
 use Rattle.store.specs.Stores.{short_place}
 use Rattle.store.specs.Shorts.{short_room, short_seen}
 use Rattle.store.specs.Stretches.{room_at, filled_from}
-use Rattle.store.proofs.short.Short.fill.Goals as goal
+use Rattle.store.proofs.short.serving.ShortBufferKeeping.fill.Goals as goal
 
 pub copy_out-requires : goal.copy_out-requires
 copy_out-requires c =

@@ -2,7 +2,7 @@ use Rattle.std.proofs.Common.{vec_items}
 use Rattle.store.specs.Bottoms.{flat_of}
 use Rattle.store.specs.Flats.{flat_room, flat_seen}
 use Rattle.store.specs.Stretches.{room_at, filled_from}
-use Rattle.store.proofs.flat.Flat.fill.Goals as goal
+use Rattle.store.proofs.flat.serving.FlatBufferKeeping.fill.Goals as goal
 
 pub copy_out-requires : goal.copy_out-requires
 copy_out-requires c =
