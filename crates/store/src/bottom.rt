@@ -20,12 +20,12 @@ pub(crate) trait Keeping: Drop {
         ensures { sector < length (image self.now) → access (image self.now) sector ≡ (if result then Err (dead_at sector 0) else Ok tt) };
 
     // Fills the buffer from a sector that was checked.
-    fn fill(&self, sector: u16, buffer: &mut [u8; 512])
+    fn fill(&self, sector: u16, buffer: &mut [u8; SECTOR])
         requires { access (image self.now) sector ≡ Ok tt }
         ensures { buffer.new ≡ filled (image self.now) sector buffer.old };
 
     // Replaces the bytes of a sector that was checked.
-    fn replace(&mut self, sector: u16, bytes: &[u8; 512])
+    fn replace(&mut self, sector: u16, bytes: &[u8; SECTOR])
         requires { access (image self.old) sector ≡ Ok tt }
         ensures { image self.new ≡ put (image self.old) sector bytes.now };
 

@@ -35,13 +35,13 @@ pub trait Store {
 
     // Fills the buffer from the sector, or leaves it and says why. (`&mut self`, since a chip may have to turn its own
     // registers to read; the image stays.)
-    fn read(&mut self, sector: u16, buffer: &mut [u8; 512]) -> Result<(), Fault>
+    fn read(&mut self, sector: u16, buffer: &mut [u8; SECTOR]) -> Result<(), Fault>
         ensures answer { result ≡ access (image self.old) sector }
         ensures buffer { buffer.new ≡ filled (image self.old) sector buffer.old }
         ensures image { image self.new ≡ image self.old };
 
     // Replaces the sector's bytes and no other sector's, or leaves all and says why.
-    fn write(&mut self, sector: u16, bytes: &[u8; 512]) -> Result<(), Fault>
+    fn write(&mut self, sector: u16, bytes: &[u8; SECTOR]) -> Result<(), Fault>
         ensures answer { result ≡ access (image self.old) sector }
         ensures image { image self.new ≡ put (image self.old) sector bytes.now };
 

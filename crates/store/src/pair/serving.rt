@@ -52,6 +52,7 @@ impl Keeping for PairBuffers {
         false
     }
 
+    // a call in each arm: with the half chosen first, a proof no longer knows in `replace` which of the two was lent
     fn fill(&self, sector: u16, buffer: &mut [u8; SECTOR]) {
         let k = usize::from(sector / 2);
         if sector % 2 == 0 {
