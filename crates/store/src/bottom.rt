@@ -36,6 +36,7 @@ pub(crate) trait Keeping: Drop {
 #[derive(Drop)]
 pub struct Bottom<B: Keeping> {
     buffers: B,
+    // kept, so that an access compares with it alone
     sectors: u16,
     ghost sized: { sectors ≡ length (B.image buffers) },
 }

@@ -41,7 +41,7 @@ pub(crate) trait Placing: Drop {
 pub struct Layer<S: Store, P: Placing> {
     below: S,
     placing: P,
-    // none where the layer does not fit
+    // none where the layer does not fit; kept, so that an access compares with it alone
     sectors: u16,
     ghost sized: { sectors ≡ length (placed (P.fits placing) (P.count placing) (P.serve placing) (S.image below)) },
 }

@@ -27,7 +27,8 @@ impl Entry {
     }
 }
 
-// No two of the entries share a place.
+// No two of the entries share a place. (Spares of `store` are walked so too: one walk for both would take a closure, and a
+// crate below the two.)
 fn are_apart(entries: &[Entry]) -> bool
     ensures { result ≡ unshared (entries_view entries.now) }
 {

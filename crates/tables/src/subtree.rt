@@ -8,6 +8,7 @@ use crate::consistent::Consistent;
 use crate::sizes::ENTRIES;
 
 impl Consistent {
+    // (That `dir` lives is true in these tables alone, so no type of a number can say it, here and in `pruning`.)
     // Marks the directory and, child by child, those beneath it. Sound tables have no ring: the walk comes to each once.
     pub(crate) fn mark_subtree(&self, dir: u8, marked: &mut [bool; ENTRIES])
         requires lives { live_dir (view self.now.tables).dirs dir ≡ true }
