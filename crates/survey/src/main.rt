@@ -1,6 +1,7 @@
 // The tour of the file system, step by step, printed in plain words. It grows with the layers below it.
 #![tactic(auto)]
 
+mod calls;
 mod stores;
 mod volumes;
 
@@ -17,5 +18,6 @@ fn tour(rt: &HostRuntime) -> anyhow::Result<()> {
     println!(rt; "no sector is ever in two files, and every answer is fixed beforehand.")?;
     println!(rt; "Proved with {KIT}.")?;
     stores::tour(rt)?;
-    volumes::tour(rt)
+    volumes::tour(rt)?;
+    calls::tour(rt)
 }

@@ -79,7 +79,7 @@ pub fn tour(rt: &HostRuntime) -> anyhow::Result<()> {
 }
 
 // Prints `ok`, or the refusal's number and word.
-fn verdict(rt: &HostRuntime, what: &str, answer: Result<(), Refusal>) -> anyhow::Result<()> {
+pub fn verdict(rt: &HostRuntime, what: &str, answer: Result<(), Refusal>) -> anyhow::Result<()> {
     match answer {
         Ok(()) => println!(rt; "   {what}: ok.")?,
         Err(refusal) => println!(rt; "   {what}: no, {refusal}.")?,
@@ -104,7 +104,7 @@ fn spoil(chip: &mut Spares<Flat>, damage: &Damage) {
 }
 
 // Draws the allocation map as sixteen rows of sixteen letters.
-fn draw<S: Store>(rt: &HostRuntime, volume: &Volume<S>) -> anyhow::Result<()> {
+pub fn draw<S: Store>(rt: &HostRuntime, volume: &Volume<S>) -> anyhow::Result<()> {
     // the refusal is printed, and the tour goes on
     let map = match volume.map() {
         Ok(map) => map,
