@@ -34,7 +34,7 @@ pub trait Store {
         ensures { result ≡ length (image self.now) };
 
     // Fills the buffer from the sector, or leaves it and says why. (`&mut self`, since a chip may have to turn its own
-    // registers to read; the image stays.)
+    // registers to read; the image stays, which relates a store before and after, so that no type can say it.)
     fn read(&mut self, sector: u16, buffer: &mut [u8; SECTOR]) -> Result<(), Fault>
         ensures answer { result ≡ access (image self.old) sector }
         ensures buffer { buffer.new ≡ filled (image self.old) sector buffer.old }

@@ -45,6 +45,7 @@ impl Claims {
         if !row.is_filled_up() {
             return None;
         }
+        // by index: a rule of the project
         for i in 0..row.count() {
             let sector = row.places[i];
             if !self.is_claimable(sector) {

@@ -70,7 +70,7 @@ impl From<Entry> for [u8; ENTRY] {
     }
 }
 
-// The entries that a sector holds.
+// The entries that a sector holds. (`decode` and `encode` of rows are alike: `pieces` says why there is no one for both.)
 pub fn decode(sector: &[u8; SECTOR]) -> [Entry; ENTRIES]
     ensures { entries_view result ≡ entries sector.now }
 {

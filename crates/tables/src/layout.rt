@@ -34,7 +34,7 @@ impl Tables {
         }
     }
 
-    // The four sectors, each by its name: a caller writes one of them, or all in their order.
+    // The four sectors, each by its name: a caller asks for one of them.
     pub fn map_sector(&self) -> [u8; SECTOR]
         ensures { result ≡ (view self.now).marks }
     {

@@ -25,6 +25,7 @@ pub struct Row {
     ghost sized: { length places ≡ 16 },
 }
 
+// Arrays of fixed size: a rule of the project has tables and volumes allocate nothing.
 // A file's row stands in an array of its own: the two lie in two sectors that are written apart, and with an array of
 // pairs one look-up (`child`) would no longer serve directories and files.
 #[derive(Clone, Copy)]

@@ -68,7 +68,8 @@ fn suit(visible: u16, pairs: &[Spare], below: u16) -> bool
     agree(visible, pairs) && visible <= below && pairs.iter().all(|pair| pair.spare < below)
 }
 
-// Whether the pairs fit one another, whatever the store below has.
+// Whether the pairs fit one another, whatever the store below has. (Walked as the entries of `tables` are: one walk for both
+// would take a closure, and a crate below the two.)
 fn agree(visible: u16, pairs: &[Spare]) -> bool
     ensures { result ≡ pairs_fit visible pairs.now }
 {

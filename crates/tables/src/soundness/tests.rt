@@ -4,7 +4,8 @@ use crate::sizes::{ENTRIES, ENTRY, SECTOR};
 use crate::types::Tables;
 use std::test::Fail;
 
-// Which of the four sectors (`volume`, which has such an enum too, stands above this crate): an enum, since a row of a table of tests holds no closure of a `&mut`.
+// Which of the four sectors: an enum, since a row of a table of tests holds no closure of a `&mut`. (`volume`, which has such
+// an enum too, stands above this crate.)
 #[derive(Clone, Copy)]
 enum Part {
     Map,
