@@ -48,6 +48,7 @@ impl Keeping for PairBuffers {
         Pair::fits(&self.even, &self.odd).map_or(0, |()| (2 * (self.even.len() / SECTOR)) as u16)
     }
 
+    #[tactic(auto, using(crate::specs::Pairs::pair_live))]
     fn is_dead(&self, _sector: u16) -> bool {
         false
     }

@@ -72,6 +72,7 @@ impl Keeping for ShortBuffer {
         Short::fits(&self.buffer).map_or(0, |()| SECTORS)
     }
 
+    #[tactic(auto, using(crate::specs::Shorts::short_access))]
     fn is_dead(&self, sector: u16) -> bool {
         !lives(sector)
     }
