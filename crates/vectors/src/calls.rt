@@ -1,5 +1,5 @@
 // The examples of the calls that change a volume: their answers, and bytes that they leave.
-use crate::session::{mkdir, prune, rename, shows, unlink, write};
+use crate::session::{Step, mkdir, prune, rename, shows, unlink, write};
 use model::types::Refusal;
 use std::test::Fail;
 use volume::sectors::{DIRS, FILES, MAP, ROWS};
@@ -9,7 +9,12 @@ fn items_are_made(rt: HostRuntime) -> Result<(), Fail> {
     let steps = [
         mkdir(b"abc", Ok(0)),
         mkdir(b"abc", Err(Refusal::Taken)),
-        mkdir(b"abc/def", Ok(1)),
+        // within abc, by its number as the start
+        Step {
+            start: 0,
+            ..mkdir(b"def", Ok(1))
+        },
+        mkdir(b"abc/def", Err(Refusal::Taken)),
         mkdir(b"no/def", Err(Refusal::Lost)),
         write(b"abc/def/g", 1024, b'G', Ok(0)),
         write(b"abc/def/g", 1024, b'G', Err(Refusal::Taken)),

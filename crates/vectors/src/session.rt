@@ -29,49 +29,34 @@ pub struct Step<'a> {
     pub answer: Result<u8, Refusal>,
 }
 
-pub fn mkdir(path: &[u8], answer: Result<u8, Refusal>) -> Step<'_> {
+// A step from the root.
+fn from_root<'a>(path: &'a [u8], call: Call<'a>, answer: Result<u8, Refusal>) -> Step<'a> {
     Step {
         start: ROOT,
         path,
-        call: Call::Mkdir,
+        call,
         answer,
     }
+}
+
+pub fn mkdir(path: &[u8], answer: Result<u8, Refusal>) -> Step<'_> {
+    from_root(path, Call::Mkdir, answer)
 }
 
 pub fn write(path: &[u8], size: usize, byte: u8, answer: Result<u8, Refusal>) -> Step<'_> {
-    Step {
-        start: ROOT,
-        path,
-        call: Call::Write(size, byte),
-        answer,
-    }
+    from_root(path, Call::Write(size, byte), answer)
 }
 
 pub fn unlink(path: &[u8], answer: Result<u8, Refusal>) -> Step<'_> {
-    Step {
-        start: ROOT,
-        path,
-        call: Call::Unlink,
-        answer,
-    }
+    from_root(path, Call::Unlink, answer)
 }
 
 pub fn prune(path: &[u8], answer: Result<u8, Refusal>) -> Step<'_> {
-    Step {
-        start: ROOT,
-        path,
-        call: Call::Prune,
-        answer,
-    }
+    from_root(path, Call::Prune, answer)
 }
 
 pub fn rename<'a>(from: &'a [u8], to: &'a [u8], answer: Result<u8, Refusal>) -> Step<'a> {
-    Step {
-        start: ROOT,
-        path: from,
-        call: Call::Rename(to),
-        answer,
-    }
+    from_root(from, Call::Rename(to), answer)
 }
 
 // A flat store of so many blank sectors, with these dead.
