@@ -7,7 +7,7 @@ ghost use Rattle.tables.specs.Views.{marks_view};
 use crate::sizes::{FIRST_DATA, LAST_DATA, NAMED, SECTOR};
 use crate::slots::Slot;
 use crate::types::Mark;
-use std::fmt;
+use std::{array, fmt};
 
 impl Mark {
     pub const FREE: Mark = Mark(0x00);
@@ -56,12 +56,12 @@ impl fmt::Display for Mark {
 pub fn decode(sector: &[u8; SECTOR]) -> [Mark; SECTOR]
     ensures { marks_view result ≡ sector.now }
 {
-    sector.map(Mark)
+    array::from_fn(|i| Mark(sector[i]))
 }
 
 // The sector that holds the marks.
 pub fn encode(all: &[Mark; SECTOR]) -> [u8; SECTOR]
     ensures { result ≡ marks_view all.now }
 {
-    all.map(|mark| mark.0)
+    array::from_fn(|i| all[i].0)
 }
