@@ -5,10 +5,11 @@ ghost use Rattle.model.specs.Tables.{entry, entries, entries_bytes, live};
 ghost use Rattle.tables.specs.Views.{entry_view, entries_view};
 
 use crate::names::padded;
-use crate::pieces::{cut, joined};
+use crate::pieces::cut;
 use crate::sizes::{ENTRIES, ENTRY, NAME, SECTOR};
 use crate::slots::Slot;
 use crate::types::Entry;
+use std::array;
 
 impl Entry {
     pub const FREE: Entry = Entry {
@@ -74,12 +75,18 @@ impl From<Entry> for [u8; ENTRY] {
 pub fn decode(sector: &[u8; SECTOR]) -> [Entry; ENTRIES]
     ensures { entries_view result ≡ entries sector.now }
 {
-    cut(sector).map(Entry::from)
+    let pieces = cut(sector);
+    array::from_fn(|i| Entry::from(pieces[i]))
 }
 
 // The sector that holds the entries.
 pub fn encode(all: &[Entry; ENTRIES]) -> [u8; SECTOR]
     ensures { result ≡ entries_bytes (entries_view all.now) }
 {
-    joined(&all.map(<[u8; ENTRY]>::from))
+    let mut sector = [0; SECTOR];
+    for (i, entry) in all.iter().enumerate() {
+        let at = ENTRY * i;
+        sector[at..at + ENTRY].copy_from_slice(&<[u8; ENTRY]>::from(*entry));
+    }
+    sector
 }

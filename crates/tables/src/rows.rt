@@ -3,9 +3,10 @@ ghost use Rattle.std.specs.Prelude.{◌≡◌, length};
 ghost use Rattle.model.specs.Tables.{parts, rows_bytes, used};
 ghost use Rattle.tables.specs.Views.{rows_view};
 
-use crate::pieces::{cut, joined};
+use crate::pieces::cut;
 use crate::sizes::{ENTRIES, PLACES, SECTOR};
 use crate::types::Row;
+use std::array;
 
 impl Row {
     pub const EMPTY: Row = Row {
@@ -45,12 +46,18 @@ impl From<Row> for [u8; PLACES] {
 pub fn decode(sector: &[u8; SECTOR]) -> [Row; ENTRIES]
     ensures { rows_view result ≡ parts 32 sector.now }
 {
-    cut(sector).map(Row::from)
+    let pieces = cut(sector);
+    array::from_fn(|i| Row::from(pieces[i]))
 }
 
 // The sector that holds the rows.
 pub fn encode(all: &[Row; ENTRIES]) -> [u8; SECTOR]
     ensures { result ≡ rows_bytes (rows_view all.now) }
 {
-    joined(&all.map(<[u8; PLACES]>::from))
+    let mut sector = [0; SECTOR];
+    for (i, row) in all.iter().enumerate() {
+        let at = PLACES * i;
+        sector[at..at + PLACES].copy_from_slice(&<[u8; PLACES]>::from(*row));
+    }
+    sector
 }

@@ -1,10 +1,7 @@
-use Rattle.std.proofs.Common.{rules, sym, ap, ◌∙◌}
-use borrow.Author.Tests.{tests}
-use Rattle.std.proofs.lemmas.List.{map-id}
-use Rattle.model.specs.Tables.{rows_bytes}
+use Rattle.std.proofs.Common.{refl}
 use Rattle.tables.specs.declared.types.Row.{Row}
-use Rattle.tables.proofs.Wholes.{mapped}
+use Rattle.tables.proofs.Bytes.{piece_writes}
 use Rattle.tables.proofs.rows.encode.Goals as goal
 
-pub returns : goal.returns
-returns c = c.joined.ensures ∙ ap rows_bytes (sym (map-id c.map.result) ∙ mapped (λ bs. bs) (λ (r : Row). r.places) c.args.all.now c.map.result c.map.ensures.items c.told-all (λ p x y q k. search (rules, tests)))
+pub loop-i-init : goal.loop-i-init
+loop-i-init c = (refl, refl, piece_writes (λ (r : Row). r.places) c.args.all.now)
