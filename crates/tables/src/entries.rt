@@ -86,7 +86,8 @@ pub fn encode(all: &[Entry; ENTRIES]) -> [u8; SECTOR]
     let mut sector = [0; SECTOR];
     for (i, entry) in all.iter().enumerate() {
         let at = ENTRY * i;
-        sector[at..at + ENTRY].copy_from_slice(&<[u8; ENTRY]>::from(*entry));
+        sector[at] = entry.parent;
+        sector[at + 1..at + ENTRY].copy_from_slice(&entry.name);
     }
     sector
 }
