@@ -79,7 +79,8 @@ pub fn decode(sector: &[u8; SECTOR]) -> [Entry; ENTRIES]
     array::from_fn(|i| Entry::from(pieces[i]))
 }
 
-// The sector that holds the entries.
+// The sector that holds the entries. (Straight from the fields: the sixteen bytes of `From` would be written, and then read
+// again.)
 pub fn encode(all: &[Entry; ENTRIES]) -> [u8; SECTOR]
     ensures { result ≡ entries_bytes (entries_view all.now) }
 {

@@ -52,7 +52,8 @@ impl fmt::Display for Mark {
     }
 }
 
-// The marks that a sector holds.
+// The marks that a sector holds. (By `from_fn`, which is one loop: an array's `map` moves each element into an `Option` and
+// out of it again.)
 pub fn decode(sector: &[u8; SECTOR]) -> [Mark; SECTOR]
     ensures { marks_view result ≡ sector.now }
 {
