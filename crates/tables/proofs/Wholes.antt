@@ -2,7 +2,7 @@
 use Rattle.std.proofs.Common.{◌≡◌, ℕ, zero, suc, ◌+◌, ◌<◌, Bool, true, false, not, ◌&&◌, ◌||◌, List, [], ◌∷◌, map, length, get_or, refl, ap, ◌∙◌, subst, ap₂, arith}
 use denote.Param.Members.{Mut}
 use Rattle.std.proofs.lemmas.List.{get_or_default}
-use Rattle.std.specs.Array.{IsFromFnResult, IsFromFnResultFrom}
+use Rattle.std.specs.Array.{IsFromFnResult, IsFromFnResultFrom, IsMapOf}
 use Rattle.std.specs.Fn.{Called}
 use Rattle.std.specs.List.{list_all, list_any, enumerate_from, range_with_len}
 use Rattle.model.specs.Tables.{all, each}
@@ -42,6 +42,12 @@ view_each v h [] [] l e = refl
 view_each v h [] (y ∷ ys) l e = absurd (omega arith)
 view_each v h (x ∷ xs) [] l e = absurd (omega arith)
 view_each v h (x ∷ xs) (y ∷ ys) l e = ap₂ (λ z zs. z ∷ zs) (e 0 x y (omega arith)) (view_each v h xs ys (omega arith) (λ i a b m. e (suc i) a b (omega arith)))
+
+-- an array's `map`
+pub mapped : {F A B C : Type 0} {g : Mut F (A × Unit {0}) B} {f : F} {n : ℕ} (v : B → C) (h : A → C) (xs : List A) (ys : List B) → IsMapOf g f xs ys n → length xs ≡ n → ((p : F) (x : A) (y : B) (q : F) → Called g p (x, tt) y q → v y ≡ h x) → map v ys ≡ map h xs
+mapped v h xs ys k l e =
+    let long = k.long in
+    view_each v h xs ys (omega arith) (λ i a b m. let t = k.at i a b (omega arith) in e t.0 (get_or xs i a) (get_or ys i b) t.1 t.2)
 
 -- what `array::from_fn` makes: v views what h gives of the element at each index, and no call changes the closure
 module _ {F A B C : Type 0} {g : Mut F (ℕ × Unit {0}) B} {f : F} {n : ℕ} (v : B → C) (h : A → C) (z : A) (xs : List A) (ys : List B) (one : (i : ℕ) (y : B) (q : F) → i < n → Called g f (i, tt) y q → (v y ≡ h (get_or xs i z)) × (q ≡ f)) where
