@@ -104,8 +104,10 @@ module _ (fits : ℕ → Bool) (c : ℕ) (serve : ℕ → ℕ) (sound : (n : ℕ
       go true k = (refl, k)
       go false k = absurd (omega arith)
 
-  leads : (i : Image) (s : ℕ) → (fits (length i) ≡ true) × (s < c) → Leads up i s (serve s)
-  leads i s h =
+  -- an access at a sector of the layer goes on to the one that serves it
+  pub layer_leads : (i : Image) (s : ℕ) → s < length (up i) → Leads up i s (serve s)
+  layer_leads i s l =
+      let h = has i s l in
       let v = sound (length i) h.0 in
       let e : layered i c serve ≡ up i = ap (λ b. laid b (layered i c serve)) (sym h.0) in
       record {
@@ -119,8 +121,8 @@ module _ (fits : ℕ → Bool) (c : ℕ) (serve : ℕ → ℕ) (sound : (n : ℕ
             ∙ ap (λ n. laid (fits n) (layered (put i (serve s) new) c serve)) (sym (length_put i (serve s) new))));
       }
 
-  -- an access at a sector of the layer goes on to the place that was found for it, and any other ends in the layer
-  pub layer_leads : (i : Image) (s p : ℕ) → whole i ≡ true → ((n : ℕ) → n ≤ most_sectors → fits n ≡ true → s < c → p ≡ serve s) → s < length (up i) → Leads up i s p
-  layer_leads i s p w found l =
+  -- and so to the place that was found for it
+  pub layer_found : (i : Image) (s p : ℕ) → whole i ≡ true → ((n : ℕ) → n ≤ most_sectors → fits n ≡ true → s < c → p ≡ serve s) → s < length (up i) → Leads up i s p
+  layer_found i s p w found l =
       let h = has i s l in
-      subst (Leads up i s) (sym (found (length i) (length_whole i w) h.0 h.1)) (leads i s h)
+      subst (Leads up i s) (sym (found (length i) (length_whole i w) h.0 h.1)) (layer_leads i s l)

@@ -13,10 +13,10 @@ use Rattle.store.specs.Layered.{Serves}
 
 -- the sector that serves s -----------------------------------------------------------------------------------------
 
-served_here : (p : Spare) (ps : List Spare) (s : ℕ) → p.sector ≡ s → served (p ∷ ps) s ≡ p.spare
+pub served_here : (p : Spare) (ps : List Spare) (s : ℕ) → p.sector ≡ s → served (p ∷ ps) s ≡ p.spare
 served_here p ps s e = ap (λ b. cond b p.spare (served ps s)) (eq-eqb s p.sector (sym e))
 
-served_on : (p : Spare) (ps : List Spare) (s : ℕ) → (p.sector ≢ s) → served (p ∷ ps) s ≡ served ps s
+pub served_on : (p : Spare) (ps : List Spare) (s : ℕ) → (p.sector ≢ s) → served (p ∷ ps) s ≡ served ps s
 served_on p ps s ne = ap (λ b. cond b p.spare (served ps s)) (ne_eqb s p.sector (λ e. ne (sym e)))
 
 -- as a search finds it

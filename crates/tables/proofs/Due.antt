@@ -5,7 +5,7 @@ use Rattle.model.specs.Sizes.{sector_size, first_data, last_data, mark_free, mar
 use Rattle.model.specs.Tables.{Tables, each, live_places, member, mark_of, marks_right}
 use Rattle.tables.specs.Rules.{told, alive_by, Claimed, due, marks_due}
 
-due_is : (dead claimed : List Bool) (t : Tables) → Claimed t claimed → (s : ℕ) → due dead claimed s ≡ mark_of (alive_by dead) t s
+pub due_is : (dead claimed : List Bool) (t : Tables) → Claimed t claimed → (s : ℕ) → due dead claimed s ≡ mark_of (alive_by dead) t s
 due_is dead claimed t tells s = go (ltb s first_data) (ltb last_data s) refl
   where
     rest : (d : Bool) → cond d mark_dead (cond (member s (live_places t.files t.rows)) mark_used mark_free) ≡ cond (not (not d)) mark_dead (cond (member s (live_places t.files t.rows)) mark_used mark_free)

@@ -18,7 +18,7 @@ turned true false k u false = refl
 turned false p k u true = refl
 turned false p k u false = refl
 
-rules_in_turn : (lives : ℕ → Bool) (t : Tables) → (rows_sound lives t && (marks_right lives t && entries_sound t)) ≡ sound_by lives t
+pub rules_in_turn : (lives : ℕ → Bool) (t : Tables) → (rows_sound lives t && (marks_right lives t && entries_sound t)) ≡ sound_by lives t
 rules_in_turn lives t =
     turned (marks_right lives t) (all (proper_entry t.dirs) t.dirs && all (proper_entry t.dirs) t.files) (rooted t) (unshared (t.dirs ++ t.files)) (rows_sound lives t)
 

@@ -1,7 +1,6 @@
 // The two layers on examples, over a store that tells by its faults which sector was asked.
 mod stub;
 
-use crate::faults::here;
 use crate::spares::{Spare, Spares};
 use crate::window::Window;
 use crate::{SECTOR, Store};
@@ -25,13 +24,18 @@ fn pair(sector: u16, spare: u16) -> Spare {
 
 fn dead(place: u16, depth: u8) -> Result<(), Fault> {
     Err(Fault {
+        cause: Cause::Dead,
+        place,
         depth,
-        ..here(Cause::Dead, place)
     })
 }
 
 fn past_end(place: u16) -> Result<(), Fault> {
-    Err(here(Cause::PastEnd, place))
+    Err(Fault {
+        cause: Cause::PastEnd,
+        place,
+        depth: 0,
+    })
 }
 
 #[test]

@@ -29,8 +29,9 @@ impl Stub {
             Ok(())
         } else {
             Err(Fault {
+                cause: Cause::Dead,
+                place: sector,
                 depth: self.depth,
-                ..here(Cause::Dead, sector)
             })
         }
     }
