@@ -1,5 +1,5 @@
--- A path cut at each slash: the last name, a path within another.
-use Rattle.std.proofs.Common.{◌≡◌, ℕ, suc, ◌+◌, ◌-◌, ◌<◌, Bool, true, false, cond, ◌&&◌, eqb, List, [], ◌∷◌, ◌++◌, length, get_or, sym, refl, ap, ◌∙◌, ap₂, arith}
+-- A path cut at each slash: where the first one stands, the last name, a path within another.
+use Rattle.std.proofs.Common.{◌≡◌, ℕ, suc, ◌+◌, ◌-◌, ◌<◌, Bool, true, false, cond, ◌&&◌, eqb, List, [], ◌∷◌, ◌++◌, length, get_or, take, drop, Some, None, Option, sym, refl, ap, ◌∙◌, subst, ap₂, arith}
 use Rattle.std.proofs.lemmas.List.{get_or-append-add, length-append}
 use Rattle.std.proofs.Math.Seq.{get_or-append_seam}
 use Rattle.std.specs.Bool.{MatchBool}
@@ -7,6 +7,7 @@ use Rattle.std.specs.List.{IsAfterLastMatch, slice_split}
 use Rattle.std.proofs.lemmas.Bool.{cond-false, eq-eqb, eqb-true, eqb-false, ne_eqb}
 use Rattle.model.specs.Book.{last}
 use Rattle.model.specs.Names.{Name, Path, cut, names, onto, same_name, within}
+use Rattle.model.specs.Tree.{first, raised}
 
 abbrev pub is_slash : ℕ → Bool
 is_slash b = eqb b 0x2f
@@ -27,6 +28,33 @@ cut_parts (b ∷ bs) = go (is_slash b) (cut_parts bs)
     go : (x : Bool) → Parts (cut bs) → Parts (cond x ([] ∷ cut bs) (onto b (cut bs)))
     go true h = ([], cut bs, refl)
     go false h = (b ∷ h.0, h.1, ap (onto b) h.2)
+
+-- at the first slash ---------------------------------------------------------------------------------
+
+not_none : {A : Type 0} (a : A) → ◌≡◌ {A = Option A} (Some a) None → ⊥
+not_none a e = cc
+
+pub cut_at : (p : List ℕ) (k : ℕ) → Some k ≡ first is_slash p → cut p ≡ take k p ∷ cut (drop (k + 1) p)
+cut_at [] k e = absurd (not_none k e)
+cut_at (b ∷ bs) k e = go (is_slash b) (first is_slash bs) refl (cut_at bs) k e
+  where
+    go : (x : Bool) (o : Option ℕ) → first is_slash bs ≡ o → ((m : ℕ) → Some m ≡ first is_slash bs → cut bs ≡ take m bs ∷ cut (drop (m + 1) bs))
+        → (k : ℕ) → Some k ≡ cond x (Some 0) (raised o) → cond x ([] ∷ cut bs) (onto b (cut bs)) ≡ take k (b ∷ bs) ∷ cut (drop (k + 1) (b ∷ bs))
+    go true o h ih k e = let q : 0 ≡ k = cc in subst (λ i. [] ∷ cut bs ≡ take i (b ∷ bs) ∷ cut (drop (i + 1) (b ∷ bs))) q refl
+    go false None h ih k e = absurd (not_none k e)
+    go false (Some m) h ih k e =
+        let q : suc m ≡ k = cc in
+        let r : suc (m + 1) ≡ suc m + 1 = omega arith in
+        ap (onto b) (ih m (sym h)) ∙ ap (λ i. (b ∷ take m bs) ∷ cut (drop i (b ∷ bs))) r ∙ ap (λ i. take i (b ∷ bs) ∷ cut (drop (i + 1) (b ∷ bs))) q
+
+pub cut-whole : (p : List ℕ) → None ≡ first is_slash p → cut p ≡ p ∷ []
+cut-whole [] e = refl
+cut-whole (b ∷ bs) e = go (is_slash b) (first is_slash bs) refl (cut-whole bs) e
+  where
+    go : (x : Bool) (o : Option ℕ) → first is_slash bs ≡ o → (None ≡ first is_slash bs → cut bs ≡ bs ∷ []) → None ≡ cond x (Some 0) (raised o) → cond x ([] ∷ cut bs) (onto b (cut bs)) ≡ (b ∷ bs) ∷ []
+    go true o h ih e = absurd (not_none 0 (sym e))
+    go false None h ih e = ap (onto b) (ih (sym h))
+    go false (Some m) h ih e = absurd (not_none (suc m) (sym e))
 
 -- from the last slash on -----------------------------------------------------------------------------
 

@@ -23,6 +23,7 @@ pub mod Prunes
 pub mod Roads
 pub mod Seeks
 pub mod Shapes
+pub mod Spellings
 pub mod Subtrees
 pub mod Told
 pub mod Verdict

@@ -6,7 +6,8 @@ ghost use Rattle.model.specs.Tables.{live_dir};
 ghost use Rattle.model.specs.Volume.{child as child_of, holder as holder_of, item_in, named, starts};
 ghost use Rattle.tables.specs.Views.{entries_view, view};
 
-use crate::sizes::{ENTRIES, NAME, ROOT, SLASH};
+use crate::paths::slash;
+use crate::sizes::{ENTRIES, NAME, ROOT};
 use crate::types::{Entry, Tables};
 use model::types::Kind;
 
@@ -42,14 +43,18 @@ impl Tables {
     // The directory that is to hold the last name of a path, and that name.
     // Start and path stay two parameters, here and in each call: system calls take them apart, and `rename` has one
     // start with two paths.
+    // It goes forward, from slash to slash, and leaves at the first name that is no directory: to take the last name
+    // off first, it would read that whole name back, however long it is.
     pub fn place<'a>(&self, start: u8, path: &'a [u8]) -> Option<(u8, &'a [u8])>
         ensures { MatchOption result (holder_of (view self.now) start (names path.now) ≡ None) (λ x. (holder_of (view self.now) start (names path.now) ≡ Some x.0) × (x.1.now ≡ last (names path.now))) }
     {
-        let mut names = path.split(|&b| b == SLASH);
-        let name = names.next_back()?;
-        names
-            .try_fold(start, |dir, name| child(&self.dirs, dir, name))
-            .map(|dir| (dir, name))
+        let mut dir = start;
+        let mut rest = path;
+        while let Some(at) = slash(rest) {
+            dir = child(&self.dirs, dir, &rest[..at])?;
+            rest = &rest[at + 1..];
+        }
+        Some((dir, rest))
     }
 
     // The directory that is to hold the last name of a path.

@@ -5,8 +5,8 @@ ghost use Rattle.model.specs.Names.{names, spelt, spelt_or_empty, within};
 ghost use Rattle.model.specs.Sizes.{slash as slash_byte};
 ghost use Rattle.model.specs.Tree.{first};
 
-use crate::names::is_proper;
-use crate::sizes::SLASH;
+use crate::names::is_proper_byte;
+use crate::sizes::{NAME, SLASH};
 
 // Where the first slash stands.
 pub fn slash(path: &[u8]) -> Option<usize>
@@ -17,10 +17,22 @@ pub fn slash(path: &[u8]) -> Option<usize>
 }
 
 // One name or more, joined by single slashes.
+// It counts the bytes of the name at hand, and leaves at the first byte that no path goes on with.
+// `split(..).all(is_proper)` would look for the slash behind a name first, however long that name is.
 pub fn is_spelt(path: &[u8]) -> bool
     ensures { result ≡ spelt path.now }
 {
-    path.split(|&b| b == SLASH).all(is_proper)
+    path.iter()
+        .try_fold(0usize, |long, &b| {
+            if b == SLASH {
+                (long > 0).then_some(0)
+            } else if long < NAME && is_proper_byte(b) {
+                Some(long + 1)
+            } else {
+                None
+            }
+        })
+        .is_some_and(|long| long > 0)
 }
 
 // Well spelt, or the empty path, which names the start.

@@ -1,22 +1,12 @@
-use Rattle.std.proofs.Common.{◌≡◌, ℕ, List, [], ◌∷◌, rules, refl, ap, ◌∙◌}
-use Rattle.std.specs.List.{slice_split}
-use Rattle.std.proofs.lemmas.Iterator.Splits.{YieldsList-from_slice_split}
-use Rattle.std.proofs.lemmas.Iterator.Search.{all_from_yields_List}
+use Rattle.std.proofs.Common.{◌≡◌, rules, sym, ap, ◌∙◌}
+use Rattle.std.proofs.lemmas.Iterator.{YieldsList-from_slice}
 use borrow.Author.Tests.{tests}
-use Rattle.model.specs.Names.{all_names, cut, proper_name, spelt}
-use Rattle.tables.proofs.Cuts.{is_slash, split_is}
-use Rattle.tables.proofs.Positions.{all_is}
+use Rattle.tables.proofs.Spellings.{counts_all, counts_on, ends, spelt_start}
 use Rattle.tables.proofs.paths.is_spelt.Goals as goal
-
--- the empty path has one name by `cut`, and that one is empty
-whole : (bs : List ℕ) → all_names (cut bs) ≡ spelt bs
-whole [] = refl
-whole (b ∷ bs) = refl
 
 pub returns : goal.returns
 returns c =
     let path = c.args.path.now in
-    all_from_yields_List proper_name _ _ c.all.result c.all.ensures.ran (YieldsList-from_slice_split _ is_slash path c.split.ensures.rest c.split.ensures.done c.split.ensures.closure (λ x b q k. search (rules, tests))) (λ x b q k. search (rules, tests))
-    ∙ all_is proper_name (slice_split is_slash path)
-    ∙ ap all_names (split_is path)
-    ∙ whole path
+    let all = counts_all c.try_fold.new.self 0 c.try_fold.result (YieldsList-from_slice path cc) c.try_fold.ensures.ran (λ n x r q k. search (rules, tests)) in
+    let last : c.is_some_and.result ≡ ends c.try_fold.result = search (rules, tests) in
+    last ∙ ap ends all ∙ counts_on path 0 ∙ sym (spelt_start path)
