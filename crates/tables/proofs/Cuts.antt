@@ -3,7 +3,7 @@ use Rattle.std.proofs.Common.{◌≡◌, ℕ, suc, ◌+◌, ◌-◌, ◌<◌, Bo
 use Rattle.std.proofs.lemmas.List.{get_or-append-add, length-append}
 use Rattle.std.proofs.Math.Seq.{get_or-append_seam}
 use Rattle.std.specs.Bool.{MatchBool}
-use Rattle.std.specs.List.{IsAfterLastMatch, slice_split}
+use Rattle.std.specs.List.{IsAfterLastMatch}
 use Rattle.std.proofs.lemmas.Bool.{cond-false, eq-eqb, eqb-true, eqb-false, ne_eqb}
 use Rattle.model.specs.Book.{last}
 use Rattle.model.specs.Names.{Name, Path, cut, names, onto, same_name, within}
@@ -11,11 +11,6 @@ use Rattle.model.specs.Tree.{first, raised}
 
 abbrev pub is_slash : ℕ → Bool
 is_slash b = eqb b 0x2f
-
--- as `split` cuts
-pub split_is : (bs : List ℕ) → slice_split is_slash bs ≡ cut bs
-split_is [] = refl
-split_is (b ∷ bs) = ap (λ ns. cond (is_slash b) ([] ∷ ns) (onto b ns)) (split_is bs)
 
 -- there is always a first name
 abbrev Parts : Path → Type 0

@@ -26,7 +26,7 @@ pub walk_start : (t : Tables) (d : ℕ) (p : List ℕ) → Walks t (holder t d (
 walk_start t d [] = refl
 walk_start t d (b ∷ p) = refl
 
--- The laws that the loop's invariant brings along: where the first name ends at k, it is &p[0..k], and &p[k + 1..] is left.
+-- The laws that the loop's invariant brings along: where the first name ends at k, it is &p[..k], and &p[k + 1..] is left.
 -- w is what the walk answers, and n the last name.
 pub record Descents (t : Tables) (w : Option ℕ) (n : Name) : Type 0 where
   pub next : (d : ℕ) (p : List ℕ) (k c : ℕ) → Walks t w d p → Some k ≡ first is_slash p → Some c ≡ child t.dirs d (take k p) → Walks t w c (take (length p - (k + 1)) (drop (k + 1) p))

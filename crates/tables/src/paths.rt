@@ -23,7 +23,7 @@ pub fn is_spelt(path: &[u8]) -> bool
     ensures { result ≡ spelt path.now }
 {
     path.iter()
-        .try_fold(0usize, |long, &b| {
+        .try_fold(0, |long, &b| {
             if b == SLASH {
                 (long > 0).then_some(0)
             } else if long < NAME && is_proper_byte(b) {
