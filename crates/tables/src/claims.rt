@@ -9,7 +9,7 @@ use crate::types::{Mark, Row, Tables};
 
 impl Row {
     // One place or more is used, and those behind are 0x00.
-    // The walk over a row's places is a `for` with an index, here and in `with`: a rule of the project.
+    // The walk over a row's places is a `for` with an index, here and in `add`: a rule of the project.
     fn is_filled_up(&self) -> bool
         ensures { result ≡ filled_up self.now.places }
     {
@@ -38,9 +38,10 @@ impl Claims {
         sector >= FIRST_DATA && !self.dead[sector as usize] && !self.claimed[sector as usize]
     }
 
-    // With the row's sectors, unless the row is no proper one or names a sector that is claimed already.
-    fn with(mut self, row: &Row) -> Option<Claims>
-        ensures { MatchOption result ((proper_row (alive_by self.dead) row.now.places && unclaimed (told self.claimed) (used row.now.places)) ≡ false) (λ c. ((proper_row (alive_by self.dead) row.now.places && unclaimed (told self.claimed) (used row.now.places)) ≡ true) × (c.dead ≡ self.dead) × ((s : ℕ) → told c.claimed s ≡ (member s (used row.now.places) || told self.claimed s))) }
+    // Adds the row's sectors, unless the row is no proper one or names a sector that is claimed already: then some of its
+    // sectors may have been added.
+    fn add(&mut self, row: &Row) -> Option<()>
+        ensures { MatchOption result ((proper_row (alive_by self.old.dead) row.now.places && unclaimed (told self.old.claimed) (used row.now.places)) ≡ false) (λ _. ((proper_row (alive_by self.old.dead) row.now.places && unclaimed (told self.old.claimed) (used row.now.places)) ≡ true) × (self.new.dead ≡ self.old.dead) × ((s : ℕ) → told self.new.claimed s ≡ (member s (used row.now.places) || told self.old.claimed s))) }
     {
         if !row.is_filled_up() {
             return None;
@@ -53,7 +54,7 @@ impl Claims {
             }
             self.claimed[sector as usize] = true;
         }
-        Some(self)
+        Some(())
     }
 
     // The mark that is due to a sector.
@@ -80,7 +81,7 @@ impl Tables {
         };
         for (file, row) in self.files.iter().zip(&self.rows) {
             if file.is_live() {
-                claims = claims.with(row)?;
+                claims.add(row)?;
             }
         }
         Some(claims)

@@ -15,8 +15,8 @@ use Rattle.tables.proofs.types.Tables.claims.Goals as goal
 abbrev takes : List Bool → List Bool → Row → Bool → Type 0
 takes d cl r b = (proper_row (alive_by d) r.places && unclaimed (told cl) (used r.places)) ≡ b
 
-pub returns-in_err-claims : goal.returns-in_err-claims
-returns-in_err-claims c =
+pub returns-in_err-add : goal.returns-in_err-add
+returns-in_err-add c =
     let dead = c.args.dead.now in
     let t = view c.args.self.now in
     let cl = c.loop-file.claims.claimed in
@@ -24,12 +24,12 @@ returns-in_err-claims c =
     let r = c.in-Some.row.now in
     let s = c.in-Some.ensures.steps in
     let k = next_file (alive_by dead) t cl _ _ f _ _ r s.0 s.1 c.loop-file.invariant.3 in
-    let h : takes dead cl r false = subst (λ (d : List Bool). takes d cl r false) c.loop-file.invariant.2 c.in_err-claims.ensures in
+    let h : takes dead cl r false = subst (λ (d : List Bool). takes d cl r false) c.loop-file.invariant.2 c.in_err-add.ensures in
     let no : rows_sound (alive_by dead) t ≡ false = row_refused (alive_by dead) t cl (entry_view f) _ r.places _ k (sym c.if-is_live.ensures) h in
     subst (λ (o : Option Claims). MatchOption o (rows_sound (alive_by dead) t ≡ false) (λ x. (rows_sound (alive_by dead) t ≡ true) × (x.dead ≡ dead) × Claimed t x.claimed)) (sym c.from_residual.ensures) no
 
-pub loop-file-preserved-then-is_live : goal.loop-file-preserved-then-is_live
-loop-file-preserved-then-is_live c =
+pub loop-file-preserved-in-Continue-1 : goal.loop-file-preserved-in-Continue-1
+loop-file-preserved-in-Continue-1 c =
     let dead = c.args.dead.now in
     let t = view c.args.self.now in
     let cl = c.loop-file.claims.claimed in
@@ -37,11 +37,11 @@ loop-file-preserved-then-is_live c =
     let r = c.in-Some.row.now in
     let s = c.in-Some.ensures.steps in
     let k = next_file (alive_by dead) t cl _ _ f _ _ r s.0 s.1 c.loop-file.invariant.3 in
-    let h : takes dead cl r true = subst (λ (d : List Bool). takes d cl r true) c.loop-file.invariant.2 c.in_ok-claims.ensures.0 in (
+    let h : takes dead cl r true = subst (λ (d : List Bool). takes d cl r true) c.loop-file.invariant.2 c.in_ok-add.ensures.0 in (
       (tt, tt),
       tt,
-      c.in_ok-claims.ensures.1 ∙ c.loop-file.invariant.2,
-      row_claims (alive_by dead) t cl (entry_view f) _ r.places _ k (sym c.if-is_live.ensures) h c.in_ok-claims.claims.claimed c.in_ok-claims.ensures.2,
+      c.in_ok-add.ensures.1 ∙ c.loop-file.invariant.2,
+      row_claims (alive_by dead) t cl (entry_view f) _ r.places _ k (sym c.if-is_live.ensures) h c.add.new.self.claimed c.in_ok-add.ensures.2,
     )
 
 pub returns : goal.returns

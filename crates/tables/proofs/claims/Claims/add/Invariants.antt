@@ -2,7 +2,7 @@ use Rattle.std.proofs.Common.{◌≡◌, ℕ, ◌||◌, length, drop}
 use Rattle.model.specs.Tables.{member, used}
 use Rattle.tables.specs.Rules.{told, alive_by}
 use Rattle.tables.proofs.Claiming.{fits}
-use Rattle.tables.proofs.claims.Claims.with.Given as goal
+use Rattle.tables.proofs.claims.Claims.add.Given as goal
 
 -- what is left of the row gives the answer, and adds what is still to be claimed
 abbrev pub invariant-loop-i : goal.invariant-loop-i
