@@ -69,18 +69,18 @@ module _ (ms : List Bool) (t : Model) (i : ℕ) (in_files : i < length t.files) 
   unfolding files-done
   done_on = ap₂ (with-files t) marks_on files_on
 
-  done-step : files-done ms t (i + 1) ≡ cond (goes_in ms e) (unlinked (files-done ms t i) i) (files-done ms t i)
+  done-step : files-done ms t (i + 1) ≡ cond (goes_in ms (get_or (files-done ms t i).files i no_entry)) (unlinked (files-done ms t i) i) (files-done ms t i)
   unfolding files-done
-  done-step = done_on ∙ go (goes_in ms e)
+  done-step = done_on ∙ go (goes_in ms e) ∙ ap (λ x. cond (goes_in ms x) (unlinked (files-done ms t i) i) (files-done ms t i)) (sym at_here)
     where
       go : (b : Bool) → with-files t (marked (cond b (used r) []) 0 marks-here) (front ++ cond b (first_bytes e) e ∷ drop (i + 1) t.files) ≡ cond b (unlinked (files-done ms t i) i) (files-done ms t i)
       go true = ap (with-files t (marked (used r) 0 marks-here)) (sym (ap (λ x. set (front ++ drop i t.files) i (first_bytes x)) at_here ∙ ap (λ xs. set xs i (first_bytes e)) here ∙ set_at front e (drop (i + 1) t.files) (first_bytes e) i front_long))
       go false = ap (with-files t marks-here) (sym here)
 
 -- The laws that the loop over the files brings along. It starts from the tables t.
-pub record Files (ms : List Bool) (t : Tables) : Type 0 where
-  pub step : (i : ℕ) (e : Entry) → i < 32 → files-done ms (view t) (i + 1) ≡ cond (live (entry_view (get_or t.files i e)) && is_marked ms (get_or t.files i e).parent) (unlinked (files-done ms (view t) i) i) (files-done ms (view t) i)
-  pub over : files-done ms (view t) 32 ≡ without_files ms (view t)
+pub record Files (ms : List Bool) (t : Model) : Type 0 where
+  pub step : (u : Tables) (i : ℕ) (e : Entry) → i < 32 → view u ≡ files-done ms t i → files-done ms t (i + 1) ≡ cond (live (entry_view (get_or u.files i e)) && is_marked ms (get_or u.files i e).parent) (unlinked (files-done ms t i) i) (files-done ms t i)
+  pub over : files-done ms t 32 ≡ without_files ms t
 
 files_start : (ms : List Bool) (t : Model) → t ≡ files-done ms t 0
 unfolding files-done
@@ -94,13 +94,13 @@ files-over ms t n p q =
     ∙ ap₂ (λ (xs ys : List ModelEntry). with-files t (marked (places_in ms t.files t.rows) 0 t.marks) (map (file_less ms) xs ++ ys)) f (drop_all n t.files (omega arith))
     ∙ ap (with-files t (marked (places_in ms t.files t.rows) 0 t.marks)) (append-nil (map (file_less ms) t.files))
 
-pub files_laws : (ms : List Bool) (t : Tables) → (view t ≡ files-done ms (view t) 0) × Files ms t
+pub files_laws : (ms : List Bool) (t : Tables) → (view t ≡ files-done ms (view t) 0) × Files ms (view t)
 files_laws ms t =
     let long = length-map t.files entry_view ∙ t.filed in
     let rows = length-map t.rows (λ (r : Row). r.places) ∙ t.rowed in (
       files_start ms (view t),
       record {
-        step = λ i e l. done-step ms (view t) i (omega arith) (omega arith) ∙ ap (λ x. cond (goes_in ms x) (unlinked (files-done ms (view t) i) i) (files-done ms (view t) i)) (let f = t.filed in get_or-map entry_view t.files i e no_entry (omega arith));
+        step = λ u i e l h. done-step ms (view t) i (omega arith) (omega arith) ∙ ap (λ x. cond (goes_in ms x) (unlinked (files-done ms (view t) i) i) (files-done ms (view t) i)) (sym (ap (λ (v : Model). get_or v.files i no_entry) h) ∙ (let f = u.filed in get_or-map entry_view u.files i e no_entry (omega arith)));
         over = files-over ms (view t) 32 long rows;
       },
     )

@@ -18,17 +18,16 @@ fn is_marked(marked: &[bool; ENTRIES], dir: u8) -> bool
     marked.get(dir as usize).is_some_and(|&mark| mark)
 }
 
-// The tables with the files in marked directories set free.
-fn without_files(tables: &Tables, marked: &[bool; ENTRIES]) -> Tables
-    ensures { view result ≡ without_files marked.now (view tables.now) }
+// Sets the files in marked directories free. By number, since the table changes under the walk.
+fn free_files(tables: &mut Tables, marked: &[bool; ENTRIES])
+    ensures { view tables.new ≡ without_files marked.now (view tables.old) }
 {
-    let mut after = *tables;
-    for (number, file) in tables.files.iter().enumerate() {
+    for number in 0..ENTRIES as u8 {
+        let file = &tables.files[number as usize];
         if file.is_live() && is_marked(marked, file.parent) {
-            after.remove_file(number as u8);
+            tables.remove_file(number);
         }
     }
-    after
 }
 
 // Sets the marked directories free: the first byte of their names becomes 0x00, and the rest of their entries stays.
@@ -60,7 +59,8 @@ impl Consistent {
         ensures { view result ≡ without_subtree top (view self.now.tables) }
     {
         let marked = self.subtree(top);
-        let mut after = without_files(&self.tables, &marked);
+        let mut after = self.tables;
+        free_files(&mut after, &marked);
         free_dirs(&mut after, &marked);
         after
     }

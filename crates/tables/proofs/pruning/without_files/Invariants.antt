@@ -1,7 +1,0 @@
-use Rattle.std.proofs.Common.{◌≡◌}
-use Rattle.tables.specs.Views.{view}
-use Rattle.tables.proofs.Freeing.{files-done, Files}
-use Rattle.tables.proofs.pruning.without_files.Given as goal
-
-abbrev pub invariant-loop-number : goal.invariant-loop-number
-invariant-loop-number l = (view l.after ≡ files-done l.marked (view l.tables) l.number) × Files l.marked l.tables
