@@ -23,7 +23,7 @@ rules_in_turn lives t =
     turned (marks_right lives t) (all (proper_entry t.dirs) t.dirs && all (proper_entry t.dirs) t.files) (rooted t) (unshared (t.dirs ++ t.files)) (rows_sound lives t)
 
 -- r is false where a row is refused, and else tells whether marks and entries are right
-pub judged : (dead : List Bool) (t : Tables) (o : Option Claims) (r : Bool) → MatchOption o (r ≡ false) (λ x. r ≡ (marks_due x.dead x.claimed t && entries_sound t)) → MatchOption o (rows_sound (alive_by dead) t ≡ false) (λ x. (rows_sound (alive_by dead) t ≡ true) × (x.dead ≡ dead) × Claimed t x.claimed) → r ≡ sound_by (alive_by dead) t
+pub judged : (dead : List Bool) (t : Tables) (o : Option Claims) (r : Bool) → MatchOption o (r ≡ false) (λ x. r ≡ (marks_due x.dead.now x.claimed t && entries_sound t)) → MatchOption o (rows_sound (alive_by dead) t ≡ false) (λ x. (rows_sound (alive_by dead) t ≡ true) × (x.dead.now ≡ dead) × Claimed t x.claimed) → r ≡ sound_by (alive_by dead) t
 judged dead t None r p q =
     let lives = alive_by dead in
     p ∙ ap (λ b. b && (marks_right lives t && entries_sound t)) (sym q) ∙ rules_in_turn lives t

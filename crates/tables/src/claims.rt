@@ -25,23 +25,24 @@ impl Row {
 
 // Of the sectors 0x00 to 0xFF, which are dead, and which the rows so far have claimed.
 #[derive(Clone, Copy)]
-pub(crate) struct Claims {
-    dead: [bool; NAMED],
+pub(crate) struct Claims<'a> {
+    dead: &'a [bool; NAMED],
     claimed: [bool; NAMED],
 }
 
-impl Claims {
+impl Claims<'_> {
     // A data sector that is alive and that no row has claimed yet; a byte is never past the last data sector.
     fn is_claimable(&self, sector: u8) -> bool
-        ensures { result ≡ (data_sector sector && alive_by self.now.dead sector && not (told self.now.claimed sector)) }
+        ensures { result ≡ (data_sector sector && alive_by self.now.dead.now sector && not (told self.now.claimed sector)) }
     {
-        sector >= FIRST_DATA && !self.dead[sector as usize] && !self.claimed[sector as usize]
+        let dead = self.dead;
+        sector >= FIRST_DATA && !dead[sector as usize] && !self.claimed[sector as usize]
     }
 
     // Adds the row's sectors, unless the row is no proper one or names a sector that is claimed already: then some of its
     // sectors may have been added.
     fn add(&mut self, row: &Row) -> Option<()>
-        ensures { MatchOption result ((proper_row (alive_by self.old.dead) row.now.places && unclaimed (told self.old.claimed) (used row.now.places)) ≡ false) (λ _. ((proper_row (alive_by self.old.dead) row.now.places && unclaimed (told self.old.claimed) (used row.now.places)) ≡ true) × (self.new.dead ≡ self.old.dead) × ((s : ℕ) → told self.new.claimed s ≡ (member s (used row.now.places) || told self.old.claimed s))) }
+        ensures { MatchOption result ((proper_row (alive_by self.old.dead.now) row.now.places && unclaimed (told self.old.claimed) (used row.now.places)) ≡ false) (λ _. ((proper_row (alive_by self.old.dead.now) row.now.places && unclaimed (told self.old.claimed) (used row.now.places)) ≡ true) × (self.new.dead.now ≡ self.old.dead.now) × ((s : ℕ) → told self.new.claimed s ≡ (member s (used row.now.places) || told self.old.claimed s))) }
     {
         if !row.is_filled_up() {
             return None;
@@ -59,9 +60,9 @@ impl Claims {
 
     // The mark that is due to a sector.
     fn due_mark(&self, sector: usize) -> Mark
-        ensures { result.0 ≡ due self.now.dead self.now.claimed sector }
+        ensures { result.0 ≡ due self.now.dead.now self.now.claimed sector }
     {
-        let unused = Mark::unused(sector, &self.dead);
+        let unused = Mark::unused(sector, self.dead);
         if unused == Mark::FREE && sector <= LAST_DATA as usize && self.claimed[sector] {
             Mark::USED
         } else {
@@ -72,11 +73,11 @@ impl Claims {
 
 impl Tables {
     // The sectors that live files' rows name, if each such row is proper and no sector is named twice.
-    pub(crate) fn claims(&self, dead: &[bool; NAMED]) -> Option<Claims>
-        ensures { MatchOption result (rows_sound (alive_by dead.now) (view self.now) ≡ false) (λ c. (rows_sound (alive_by dead.now) (view self.now) ≡ true) × (c.dead ≡ dead.now) × Claimed (view self.now) c.claimed) }
+    pub(crate) fn claims<'a>(&self, dead: &'a [bool; NAMED]) -> Option<Claims<'a>>
+        ensures { MatchOption result (rows_sound (alive_by dead.now) (view self.now) ≡ false) (λ c. (rows_sound (alive_by dead.now) (view self.now) ≡ true) × (c.dead.now ≡ dead.now) × Claimed (view self.now) c.claimed) }
     {
         let mut claims = Claims {
-            dead: *dead,
+            dead,
             claimed: [false; NAMED],
         };
         for (file, row) in self.files.iter().zip(&self.rows) {
@@ -89,7 +90,7 @@ impl Tables {
 
     // Every mark is the one that is due.
     pub(crate) fn marks_are_due(&self, claims: &Claims) -> bool
-        ensures { result ≡ marks_due claims.now.dead claims.now.claimed (view self.now) }
+        ensures { result ≡ marks_due claims.now.dead.now claims.now.claimed (view self.now) }
     {
         self.marks
             .iter()

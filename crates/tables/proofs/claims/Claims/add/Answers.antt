@@ -13,7 +13,7 @@ pub returns-then-not-is_claimable : goal.returns-then-not-is_claimable
 returns-then-not-is_claimable c =
     let r = c.args.row.now.places in
     let s = get_or r c.loop-i.i 0 in
-    let lives = alive_by c.args.self.now.dead in
+    let lives = alive_by c.args.self.now.dead.now in
     let claimed = c.args.self.now.claimed in
     let i : c.loop-i.i < length (used r) = omega arith in
     let h = c.if-not-is_claimable.ensures ∙ ap (λ (d : List Bool). data_sector s && alive_by d s && not (told c.loop-i.self.claimed s)) c.loop-i.invariant.1 in
@@ -24,7 +24,7 @@ pub loop-i-preserved : goal.loop-i-preserved
 loop-i-preserved c =
     let r = c.args.row.now.places in
     let s = get_or r c.loop-i.i 0 in
-    let lives = alive_by c.args.self.now.dead in
+    let lives = alive_by c.args.self.now.dead.now in
     let claimed = c.args.self.now.claimed in
     let i : c.loop-i.i < length (used r) = omega arith in
     let h = c.if-not-is_claimable.ensures ∙ ap (λ (d : List Bool). data_sector s && alive_by d s && not (told c.loop-i.self.claimed s)) c.loop-i.invariant.1 in (

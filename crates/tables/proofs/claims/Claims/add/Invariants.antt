@@ -8,6 +8,6 @@ use Rattle.tables.proofs.claims.Claims.add.Given as goal
 abbrev pub invariant-loop-i : goal.invariant-loop-i
 invariant-loop-i l =
     (length l.self.claimed ≡ 256)
-    × (l.self.dead ≡ l.initial.self.dead)
-    × (fits (alive_by l.initial.self.dead) (told l.self.claimed) (drop l.i (used l.row.places)) ≡ fits (alive_by l.initial.self.dead) (told l.initial.self.claimed) (used l.row.places))
+    × (l.self.dead.now ≡ l.initial.self.dead.now)
+    × (fits (alive_by l.initial.self.dead.now) (told l.self.claimed) (drop l.i (used l.row.places)) ≡ fits (alive_by l.initial.self.dead.now) (told l.initial.self.claimed) (used l.row.places))
     × ((s : ℕ) → (member s (drop l.i (used l.row.places)) || told l.self.claimed s) ≡ (member s (used l.row.places) || told l.initial.self.claimed s))

@@ -26,7 +26,7 @@ returns-in_err-add c =
     let k = next_file (alive_by dead) t cl _ _ f _ _ r s.0 s.1 c.loop-file.invariant.3 in
     let h : takes dead cl r false = subst (λ (d : List Bool). takes d cl r false) c.loop-file.invariant.2 c.in_err-add.ensures in
     let no : rows_sound (alive_by dead) t ≡ false = row_refused (alive_by dead) t cl (entry_view f) _ r.places _ k (sym c.if-is_live.ensures) h in
-    subst (λ (o : Option Claims). MatchOption o (rows_sound (alive_by dead) t ≡ false) (λ x. (rows_sound (alive_by dead) t ≡ true) × (x.dead ≡ dead) × Claimed t x.claimed)) (sym c.from_residual.ensures) no
+    subst (λ (o : Option Claims). MatchOption o (rows_sound (alive_by dead) t ≡ false) (λ x. (rows_sound (alive_by dead) t ≡ true) × (x.dead.now ≡ dead) × Claimed t x.claimed)) (sym c.from_residual.ensures) no
 
 pub loop-file-preserved-in-Continue-1 : goal.loop-file-preserved-in-Continue-1
 loop-file-preserved-in-Continue-1 c =

@@ -10,5 +10,5 @@ abbrev pub invariant-loop-file : goal.invariant-loop-file
 invariant-loop-file l =
     (goal.iterator-loop-file).can_next l.file-iterator
     × (goal.iterator-loop-file).is_finite l.file-iterator
-    × (l.claims.dead ≡ l.dead)
+    × (l.claims.dead.now ≡ l.dead)
     × Gathers (alive_by l.dead) (view l.self) l.claims.claimed (entries_view (iter_rest (zip_first l.file-iterator))) (rows_view (iter_rest (zip_second l.file-iterator)))

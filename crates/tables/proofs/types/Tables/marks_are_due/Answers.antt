@@ -21,7 +21,7 @@ as_viewed ms due s l = ap (λ m. eqb m (due s)) (sym (get_or-map (λ (m : Mark).
 pub returns : goal.returns
 returns c =
     let ms = c.args.self.now.marks in
-    let due = due c.args.claims.now.dead c.args.claims.now.claimed in
+    let due = due c.args.claims.now.dead.now c.args.claims.now.claimed in
     let test = λ (p : ℕ × Mark). eqb p.1.0 (due p.0) in
     let right = λ (s : ℕ). eqb (get_or (marks_view ms) s 1) (due s) in
     all_from_yields_List test _ _ _ c.all.ensures.ran (YieldsList-from_enumerate (YieldsList-from_slice ms cc) cc) (λ x b q k. search (rules, tests))
