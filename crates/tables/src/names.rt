@@ -22,10 +22,16 @@ pub fn is_proper(name: &[u8]) -> bool
 }
 
 // The first byte that differs decides, and a name precedes every longer one that begins with it.
+// By a loop, since the library's `<` and `cmp` of slices take more steps on names as short as an entry holds.
 pub fn precedes(a: &[u8], b: &[u8]) -> bool
     ensures { result ≡ before a.now b.now }
 {
-    a < b
+    for (x, y) in a.iter().zip(b.iter()) {
+        if x != y {
+            return x < y;
+        }
+    }
+    a.len() < b.len()
 }
 
 // A name as an entry holds it: filled up with 0x00. Past fifteen bytes a name is cut off.
